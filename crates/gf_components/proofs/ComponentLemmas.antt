@@ -17,7 +17,7 @@ use Rattle.std.proofs.lemmas.List.Sums.{fold_push}
 use Rattle.std.proofs.lemmas.List.Kept.{IsStrictlySortedBy-filter}
 use Rattle.gf_base.proofs.ListLemmas.{Contains-cons_cases, Contains-cons_head, Contains-cons_tail}
 use Rattle.gf_base.proofs.ListLemmas.{not_Contains-nil}
-use Rattle.gf_maximal.specs.Growing.{is_in, misses, without, common}
+use Rattle.gf_maximal.specs.Growing.{is_in, is_disjoint, without, common}
 use Rattle.gf_maximal.specs.Growing as sets
 use Rattle.gf_maximal.specs.Tables.{IsRising}
 use Rattle.gf_maximal.specs.Pairs.{Pairs}
@@ -26,7 +26,7 @@ use Rattle.gf_maximal.proofs.LargestLemmas.{IsConflict}
 use Rattle.gf_base.proofs.FilterLemmas.{Contains-filter}
 use Rattle.gf_base.proofs.RisingLemmas.{rising_nil}
 use Rattle.gf_maximal.proofs.PairLemmas.{Pairs-append, Pairs-filter}
-use Rattle.gf_maximal.proofs.MaximalLemmas.{in_list, from_list, out_of, meets_from, meets_none}
+use Rattle.gf_maximal.proofs.MaximalLemmas.{in_list, from_list, out_of, intersects_from, intersects_none}
 use Rattle.gf_maximal.proofs.MaximalLemmas.{Contains-without}
 use Rattle.gf_maximal.proofs.GrowingLemmas.{Comes}
 use Rattle.gf_maximal.proofs.UnitedLemmas.{Contains-united, united_rises}
@@ -261,7 +261,7 @@ module _ (c : ℕ → ℕ → Bool) where
             | inl f ↦ inl ((singles a).1 (f, h))
             | inr w ↦ inr (
               w.0,
-              (Contains-filter (touches d) t.components w.0).1 (w.1, meets_from d w.0.all a h w.2),
+              (Contains-filter (touches d) t.components w.0).1 (w.1, intersects_from d w.0.all a h w.2),
               w.2,
             )
           ])
@@ -321,7 +321,7 @@ module _ (c : ℕ → ℕ → Bool) where
           (λ a b h j. elim ((has (touched d t).all a).0 h) [
             | inl f ↦ touched_apart q i a b f j
             | inr e ↦ let r = of_rest q i in subst (λ z. (z ≢ b) × (c z b ≡ false)) (sym e)
-                (spared b (components_in q r.0 b j) (meets_none d q.all r.1 b j))
+                (spared b (components_in q r.0 b j) (intersects_none d q.all r.1 b j))
           ])
 
       of_free : (a : ℕ) → Contains (without d t.free) a → Contains t.free a × (¬ (Contains d a))
@@ -354,7 +354,7 @@ module _ (c : ℕ → ℕ → Bool) where
           → filter (stays d x) (ps ++ new_component ∷ []) ≡ filter (λ p. not (touches d p))
           ps ++ new_component ∷ []
       same_filter [] f = cond-true (stays d x new_component) (new_component ∷ []) []
-          (or_left (is_in new_component.all x) (misses d new_component.all) is_new)
+          (or_left (is_in new_component.all x) (is_disjoint d new_component.all) is_new)
       same_filter (p ∷ ps) f =
           let e : stays d x p ≡ not (touches d p) = ap (λ b. b || not (touches d p))
           (f p (Contains-cons_head p ps)) in

@@ -14,7 +14,7 @@ use Rattle.gf_base.proofs.ListLemmas.{Contains-cons_cases, Contains-cons_head, C
 use Rattle.gf_base.proofs.ListLemmas.{not_Contains-nil}
 use Rattle.gf_base.proofs.FilterLemmas.{Contains-filter}
 use Rattle.gf_base.proofs.RisingLemmas.{rising_front, rising_below, never_both}
-use Rattle.gf_maximal.specs.Growing.{meets, misses, without, joined, maximal, united, next}
+use Rattle.gf_maximal.specs.Growing.{intersects, is_disjoint, without, joined, maximal, united, next}
 use Rattle.gf_maximal.specs.Tables.{IsRising, IsTable}
 use Rattle.gf_maximal.proofs.GrowingLemmas.{Comes, table_first, table_next}
 use Rattle.gf_maximal.proofs.LargestLemmas.{IsConflict}
@@ -98,14 +98,14 @@ module _ (c : ℕ → ℕ → Bool) (s : IsConflict c) where
   -- sets never become fewer
   no_fewer : (d : List ℕ) (x : ℕ) (gs : List (List ℕ)) → length gs ≤ length (next d x gs)
   no_fewer d x gs =
-      let calms = filter (misses d) gs in
-      let hits = filter (meets d) gs in
+      let calms = filter (is_disjoint d) gs in
+      let hits = filter (intersects d) gs in
       let news = maximal calms (map (without d) hits) in
       let a = length-append hits (map (joined x) (calms ++ news)) in
       let b : length (map (joined x) (calms ++ news)) ≡ length (calms ++ news) = rw length-map refl
       in
       let e = length-append calms news in
-      let f = two_lists (meets d) gs in
+      let f = two_lists (intersects d) gs in
       omega (arith, a, b, e, f)
 
   pub record HasTable (us : List ℕ) : Type 0 where

@@ -11,7 +11,7 @@ use Rattle.std.proofs.lemmas.Bool.{or_right}
 use Rattle.std.proofs.lemmas.Cmp.{nat_cmp_total}
 use Rattle.std.proofs.lemmas.List.Elements.{filter-append}
 use Rattle.std.proofs.lemmas.List.Quantifiers.{position-Some}
-use Rattle.gf_maximal.specs.Growing.{is_in, meets, misses, without, common, joined}
+use Rattle.gf_maximal.specs.Growing.{is_in, intersects, is_disjoint, without, common, joined}
 use Rattle.gf_maximal.proofs.InsertLemmas.{holds}
 use Rattle.gf_maximal.proofs.MaximalLemmas.{in_list}
 use Rattle.gf_components.specs.Components.{ComponentState, ComponentsState, alone, merged, touches}
@@ -34,11 +34,11 @@ module _ {X : Type 0} (p : X → Bool) where
       (none_before d xs i (omega arith) (λ k m. f (suc k) (omega arith)))
 
 module _ (d : List ℕ) (x : ℕ) where
-  without_missing : (g : List ℕ) → meets d g ≡ false → without d g ≡ g
+  without_missing : (g : List ℕ) → intersects d g ≡ false → without d g ≡ g
   without_missing [] e = refl
   without_missing (a ∷ g) e = elim (cases_Bool (is_in d a)) [
     | inl t ↦ let bad : true ≡ false = rw t at e in absurd cc
-    | inr n ↦ let rest : meets d g ≡ false = rw n at e in
+    | inr n ↦ let rest : intersects d g ≡ false = rw n at e in
         rw n (ap (λ zs. a ∷ zs) (without_missing g rest))
   ]
 
@@ -46,12 +46,12 @@ module _ (d : List ℕ) (x : ℕ) where
   untouched : (ps : List ComponentState) → list_any (touches d) ps ≡ false
       → filter (stays d x) ps ≡ ps
   untouched [] e = refl
-  untouched (p ∷ ps) e = elim (cases_Bool (meets d p.all)) [
+  untouched (p ∷ ps) e = elim (cases_Bool (intersects d p.all)) [
     | inl t ↦ let bad : true ≡ false = rw t at e in absurd cc
     | inr n ↦
         let rest : list_any (touches d) ps ≡ false = rw n at e in
-        let y : stays d x p ≡ true = or_right (is_in p.all x) (misses d p.all)
-        (not_from_false (meets d p.all) n) in
+        let y : stays d x p ≡ true = or_right (is_in p.all x) (is_disjoint d p.all)
+        (not_from_false (intersects d p.all) n) in
         rw y (ap (λ zs. p ∷ zs) (untouched ps rest))
   ]
 
@@ -61,7 +61,7 @@ module _ (d : List ℕ) (x : ℕ) where
   or_false false false e = absurd cc
 
   has_new : (p : ComponentState) → stays d x (grown d x p) ≡ true
-  has_new p = or_left (is_in (joined x p.all) x) (misses d (joined x p.all))
+  has_new p = or_left (is_in (joined x p.all) x) (is_disjoint d (joined x p.all))
       (in_list (joined x p.all) x ((holds nat_cmp nat_cmp_total nat_cmp-IsAntisymmetric x p.all x).1
       (inr refl)))
 
@@ -76,7 +76,7 @@ module _ (d : List ℕ) (x : ℕ) where
 
     one_touched : filter (touches d) all ≡ p ∷ []
     one_touched =
-        let t : touches d p ≡ true = or_false (is_in p.all x) (meets d p.all) grows in
+        let t : touches d p ≡ true = or_false (is_in p.all x) (intersects d p.all) grows in
         let rest : filter (touches d) (p ∷ behind) ≡ p ∷ [] = cond-true (touches d p)
         (p ∷ filter (touches d) behind) (filter (touches d) behind) t
         ∙ ap (λ zs. p ∷ zs) (none_pass (touches d) behind f) in
@@ -101,7 +101,7 @@ connected_one : (d : List ℕ) (x : ℕ) (s : ComponentsState) (before : List Co
     (p : ComponentState) (behind : List ComponentState) → s.components ≡ before ++ p ∷ behind
     → stays d x p ≡ false →
     list_any (touches d) before ≡ false → list_any (touches d) behind ≡ false
-    → meets d s.free ≡ false → connected d x s ≡ record {
+    → intersects d s.free ≡ false → connected d x s ≡ record {
       free = s.free;
       components = (before ++ behind) ++ grown d x p ∷ [];
     }
@@ -129,7 +129,7 @@ found_first d components i z e = let w = position-Some (touches d) components i 
     (w.0, none_before (touches d) z components i w.0 w.2)
 
 pub one_connected : {A B : Type 0} (r : Result A B) (d : List ℕ) (x : ℕ) (s t : ComponentsState)
-    (i : ℕ) (new : List ComponentState) → IsOneTouched d x s.components i → meets d s.free ≡ false
+    (i : ℕ) (new : List ComponentState) → IsOneTouched d x s.components i → intersects d s.free ≡ false
     → s ≡ t →
     OnOk r ((component : ComponentState) (behind : List ComponentState)
     → drop i s.components ≡ component ∷ behind → new ≡ (take i s.components ++ behind) ++ grown d x

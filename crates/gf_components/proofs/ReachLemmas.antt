@@ -6,7 +6,7 @@ use Rattle.std.proofs.lemmas.List.{take_all, take_more}
 use Rattle.std.proofs.lemmas.List.Elements.{Contains-append_left, Contains-push}
 use Rattle.std.proofs.lemmas.List.Elements.{Contains-push_cases}
 use Rattle.gf_maximal.proofs.LargestLemmas.{IsConflict}
-use Rattle.gf_maximal.proofs.MaximalLemmas.{meets_from}
+use Rattle.gf_maximal.proofs.MaximalLemmas.{intersects_from}
 use Rattle.gf_maximal.specs.Growing.{united}
 use Rattle.gf_maximal.proofs.UnitedLemmas.{Contains-united}
 use Rattle.gf_maximal.proofs.PairLemmas.{Pairs-two}
@@ -96,7 +96,7 @@ module _ (c : ℕ → ℕ → Bool) (test : IsConflict c) (s : ComponentsState) 
       | inr w ↦ elim (Pairs-two (λ (p q : ComponentState). Apart c p.all q.all) s.components
           (λ p q. turned p.all q.all) a.apart v.0 w.0 v.1 w.1) [
             | inl e ↦
-                let hit = meets_from d v.0.all m i v.2 in (
+                let hit = intersects_from d v.0.all m i v.2 in (
                   record { component = v.0; listed = v.1; touched = hit; reached = v.2 },
                   record {
                     component = v.0;

@@ -4,7 +4,7 @@ use Rattle.std.specs.Prelude.{List, [], ◌∷◌, ◌++◌}
 use Rattle.std.specs.Prelude.{filter, map, length, Option, Some, None}
 use Rattle.std.specs.List.{fold, flat_map}
 use Rattle.gf_components.specs.declared.sets.TheConstants.{MOST_SETS}
-use Rattle.gf_maximal.specs.Growing.{is_in, meets, misses, without, common, joined, united, next}
+use Rattle.gf_maximal.specs.Growing.{is_in, intersects, is_disjoint, without, common, joined, united, next}
 
 -- a component keeps at most this many sets
 abbrev pub most_sets : ℕ
@@ -65,7 +65,7 @@ no_components = record { free = []; components = [] }
 
 -- the component has a number of d
 abbrev pub touches : List ℕ → ComponentState → Bool
-touches d p = meets d p.all
+touches d p = intersects d p.all
 
 -- all that d connects, as one component
 abbrev pub touched : List ℕ → ComponentsState → ComponentState
@@ -89,7 +89,7 @@ grown d x p = record { all = joined x p.all; sets = grown_sets d x p.sets }
 
 -- the component has x, or none of d
 abbrev pub stays : List ℕ → ℕ → ComponentState → Bool
-stays d x p = is_in p.all x || misses d p.all
+stays d x p = is_in p.all x || is_disjoint d p.all
 
 -- the components with x added, a number that conflicts with none
 abbrev pub with_free : ℕ → ComponentsState → ComponentsState

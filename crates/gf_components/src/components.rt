@@ -85,7 +85,7 @@ impl Component {
     fn touches(&self, rivals: &Numbers) -> bool
         ensures { result ≡ touches rivals.now self.now }
     {
-        rivals.meets(&self.all)
+        rivals.intersects(&self.all)
     }
 
     /// Whether the component has the number, or none of the rivals.
@@ -93,7 +93,7 @@ impl Component {
         requires { number + 1 < 2 ^ 64 }
         ensures { result ≡ stays rivals.now number self.now }
     {
-        self.all.has(number) || !rivals.meets(&self.all)
+        self.all.has(number) || !rivals.intersects(&self.all)
     }
 
     /// Adds a number, which conflicts with these rivals. Nothing changes before all memory is
@@ -328,7 +328,7 @@ impl Components {
         ensures ok { OnOk result (self.new ≡ connected rivals.now number self.old) }
         ensures err { OnErr result (self.new ≡ self.old) }
     {
-        if !rivals.meets(&self.free) {
+        if !rivals.intersects(&self.free) {
             if let Some(index) = one_touched(rivals, number, &self.components) {
                 return grow_one(alloc, rivals, number, index, &mut self.components);
             }

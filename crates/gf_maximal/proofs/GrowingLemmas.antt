@@ -11,7 +11,7 @@ use Rattle.std.proofs.lemmas.List.Elements.{Contains-append_cases, Contains-appe
 use Rattle.std.proofs.lemmas.List.Elements.{Contains-append_right, Contains-push}
 use Rattle.std.proofs.lemmas.List.Elements.{Contains-push_cases}
 use Rattle.std.proofs.lemmas.List.Kept.{IsStrictlySortedBy-filter, AllPairs-filter}
-use Rattle.gf_maximal.specs.Growing.{is_in, meets, misses, without, joined, maximal, next}
+use Rattle.gf_maximal.specs.Growing.{is_in, intersects, is_disjoint, without, joined, maximal, next}
 use Rattle.gf_maximal.specs.Tables.{Hits, IsLargest, IsRising, IsTable}
 use Rattle.gf_base.proofs.ListLemmas.{Contains-cons_cases, Contains-cons_head, not_Contains-nil}
 use Rattle.gf_base.proofs.ListLemmas.{Contains-map, Contains-map_from}
@@ -24,8 +24,8 @@ use Rattle.gf_maximal.proofs.ExtendingLemmas.{extended}
 use Rattle.gf_maximal.proofs.PairLemmas.{AllPairs-append, AllPairs-map, AllPairs-from_Pairs}
 use Rattle.gf_maximal.proofs.PairLemmas.{Pairs-from, Pairs-two}
 use Rattle.gf_maximal.proofs.MaximalLemmas.{Within, Apart, IsMaximal, maximal_is, in_list}
-use Rattle.gf_maximal.proofs.MaximalLemmas.{from_list, is_within_from, meets_one, meets_from}
-use Rattle.gf_maximal.proofs.MaximalLemmas.{meets_none, Contains-without}
+use Rattle.gf_maximal.proofs.MaximalLemmas.{from_list, is_within_from, intersects_one, intersects_from}
+use Rattle.gf_maximal.proofs.MaximalLemmas.{intersects_none, Contains-without}
 
 -- nothing has one set, the empty one
 pub table_first : (c : ℕ → ℕ → Bool) → IsTable c [] ([] ∷ [])
@@ -180,10 +180,10 @@ module _ (c : ℕ → ℕ → Bool) (s : IsConflict c) (us : List ℕ) (x : ℕ)
 
   module _ (gs : List (List ℕ)) (table : IsTable c us gs) where
     abbrev calms : List (List ℕ)
-    calms = filter (misses d) gs
+    calms = filter (is_disjoint d) gs
 
     abbrev hits : List (List ℕ)
-    hits = filter (meets d) gs
+    hits = filter (intersects d) gs
 
     abbrev rests : List (List ℕ)
     rests = map (without d) hits
@@ -198,17 +198,17 @@ module _ (c : ℕ → ℕ → Bool) (s : IsConflict c) (us : List ℕ) (x : ℕ)
     listed : (g : List ℕ) → Contains gs g → IsSet us g
     listed g h = (table.each g).0 h
 
-    -- one that misses d
+    -- one that is disjoint from d
     calm_one : (g : List ℕ) → Contains calms g → IsSet us g × IsCalm g
     calm_one g h =
-        let w = (Contains-filter (misses d) gs g).0 h in
+        let w = (Contains-filter (is_disjoint d) gs g).0 h in
         let m = listed g w.0 in (
           m,
           record {
             rising = m.0;
             inside = m.1.within;
             compatible = m.1.compatible;
-            avoids = λ a i. calm a (m.1.within a i) (meets_none d g (not-true (meets d g) w.1) a i);
+            avoids = λ a i. calm a (m.1.within a i) (intersects_none d g (not-true (intersects d g) w.1) a i);
           },
         )
 
@@ -226,17 +226,17 @@ module _ (c : ℕ → ℕ → Bool) (s : IsConflict c) (us : List ℕ) (x : ℕ)
     rest_one r h =
         let w = Contains-map_from (without d) hits r h in
         subst IsCalm (sym w.2) (rest_of w.0
-        (listed w.0 ((Contains-filter (meets d) gs w.0).0 w.1).0))
+        (listed w.0 ((Contains-filter (intersects d) gs w.0).0 w.1).0))
 
     -- what remains of any set without d lies within one that is calm or new
     reached : (g : List ℕ) → Contains gs g → (k : List ℕ) × (Contains calms k ⊎ Contains news k)
         × Within (without d g) k
-    reached g h = elim (cases_Bool (meets d g)) [
+    reached g h = elim (cases_Bool (intersects d g)) [
       | inl t ↦ most.covered (without d g)
-          (Contains-map (without d) hits g ((Contains-filter (meets d) gs g).1 (h, t)))
+          (Contains-map (without d) hits g ((Contains-filter (intersects d) gs g).1 (h, t)))
       | inr n ↦ (
         g,
-        inl ((Contains-filter (misses d) gs g).1 (h, not_from_false (meets d g) n)),
+        inl ((Contains-filter (is_disjoint d) gs g).1 (h, not_from_false (intersects d g) n)),
         λ a i. ((Contains-without d g a).0 i).0,
       )
     ]
@@ -312,9 +312,9 @@ module _ (c : ℕ → ℕ → Bool) (s : IsConflict c) (us : List ℕ) (x : ℕ)
 
     hit_set : (g : List ℕ) → Contains hits g → IsSet all g
     hit_set g h =
-        let w = (Contains-filter (meets d) gs g).0 h in
+        let w = (Contains-filter (intersects d) gs g).0 h in
         let m = listed g w.0 in
-        let v = meets_one d g w.1 in (
+        let v = intersects_one d g w.1 in (
           m.0,
           upwards (Contains g) (Contains g) (λ a. same)
               (largest_stays c (Contains us) (Contains g) x m.1 (v.0, v.2, hit v.0 v.1)),
@@ -339,9 +339,9 @@ module _ (c : ℕ → ℕ → Bool) (s : IsConflict c) (us : List ℕ) (x : ℕ)
         let old = largest_was c s (Contains us) (Contains q) x (downwards q m.1) w in
         let i = (table.each q).1 (m.0, old) in
         Contains-append_left hits grown q
-        ((Contains-filter (meets d) gs q).1 (
+        ((Contains-filter (intersects d) gs q).1 (
           i,
-          meets_from d q w.0 ((comes.rivals w.0).1 (old.within w.0 w.1, w.2)) w.1,
+          intersects_from d q w.0 ((comes.rivals w.0).1 (old.within w.0 w.1, w.2)) w.1,
         ))
 
     calm_or_new : (k : List ℕ) → Contains calms k ⊎ Contains news k
@@ -368,7 +368,7 @@ module _ (c : ℕ → ℕ → Bool) (s : IsConflict c) (us : List ℕ) (x : ℕ)
 
     different : AllPairs (λ g h. g ≢ h) (calms ++ news)
     different = AllPairs-append (λ g h. g ≢ h) calms news
-        (AllPairs-filter (λ g h. g ≢ h) (misses d) gs table.once)
+        (AllPairs-filter (λ g h. g ≢ h) (is_disjoint d) gs table.once)
         (AllPairs-from_Pairs (λ g h. g ≢ h) news
         (Pairs-from Apart (λ g h. g ≢ h) news (λ a b i j p e. let n = p.0 in
         let y = is_within_from a b (λ z h. subst (λ v. Contains v z) e h) in absurd cc) most.apart))
@@ -391,13 +391,13 @@ module _ (c : ℕ → ℕ → Bool) (s : IsConflict c) (us : List ℕ) (x : ℕ)
         ],
       );
       once = AllPairs-append (λ g h. g ≢ h) hits grown
-          (AllPairs-filter (λ g h. g ≢ h) (meets d) gs table.once)
+          (AllPairs-filter (λ g h. g ≢ h) (intersects d) gs table.once)
           (AllPairs-map (joined x) (calms ++ news) (λ g h i j e.
           let m = inside g i in let n = inside h j in
           one g h m.rising n.rising
           (λ a. (told_apart g h m.inside e a, told_apart h g n.inside (sym e) a))) different)
           (λ g h i j e.
-          let m = listed g ((Contains-filter (meets d) gs g).0 i).0 in
+          let m = listed g ((Contains-filter (intersects d) gs g).0 i).0 in
           let w = Contains-map_from (joined x) (calms ++ news) h j in
           missing g m.1.within (subst (λ z. Contains z x) (sym (e ∙ w.2))
           ((has w.0 x).1 (inr refl))));

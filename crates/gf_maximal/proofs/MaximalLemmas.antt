@@ -8,7 +8,7 @@ use Rattle.std.proofs.lemmas.Bool.{or_cases}
 use Rattle.std.proofs.lemmas.Bool.Decides.{Decides-eqb}
 use Rattle.std.proofs.lemmas.List.Elements.{Contains-append_left, Contains-push}
 use Rattle.std.proofs.lemmas.List.Elements.{Contains-push_cases}
-use Rattle.gf_maximal.specs.Growing.{is_in, meets, without, is_within, take_up, maximal}
+use Rattle.gf_maximal.specs.Growing.{is_in, intersects, without, is_within, take_up, maximal}
 use Rattle.gf_maximal.specs.Pairs.{Pairs}
 use Rattle.gf_base.proofs.ListLemmas.{Contains-cons_cases, not_Contains-nil}
 use Rattle.gf_base.proofs.FilterLemmas.{Contains-filter, list_any_true, list_any_false}
@@ -40,14 +40,14 @@ within g k t a h = from_list k a (list_all_true (is_in k) g t a h)
 pub is_within_from : (g k : List ℕ) → Within g k → is_within g k ≡ true
 is_within_from g k f = list_all_from (is_in k) g (λ a h. in_list k a (f a h))
 
-pub meets_one : (d g : List ℕ) → meets d g ≡ true → (a : ℕ) × Contains d a × Contains g a
-meets_one d g t = let w = list_any_true (is_in d) g t in (w.0, from_list d w.0 w.2, w.1)
+pub intersects_one : (d g : List ℕ) → intersects d g ≡ true → (a : ℕ) × Contains d a × Contains g a
+intersects_one d g t = let w = list_any_true (is_in d) g t in (w.0, from_list d w.0 w.2, w.1)
 
-pub meets_from : (d g : List ℕ) (a : ℕ) → Contains d a → Contains g a → meets d g ≡ true
-meets_from d g a h i = list_any_from (is_in d) g a i (in_list d a h)
+pub intersects_from : (d g : List ℕ) (a : ℕ) → Contains d a → Contains g a → intersects d g ≡ true
+intersects_from d g a h i = list_any_from (is_in d) g a i (in_list d a h)
 
-pub meets_none : (d g : List ℕ) → meets d g ≡ false → (a : ℕ) → Contains g a → ¬ (Contains d a)
-meets_none d g n a h = not_in d a (list_any_false (is_in d) g n a h)
+pub intersects_none : (d g : List ℕ) → intersects d g ≡ false → (a : ℕ) → Contains g a → ¬ (Contains d a)
+intersects_none d g n a h = not_in d a (list_any_false (is_in d) g n a h)
 
 pub Contains-without : (d g : List ℕ) (a : ℕ)
     → Contains (without d g) a ↔ (Contains g a × (¬ (Contains d a)))

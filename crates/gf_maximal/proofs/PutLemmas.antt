@@ -12,7 +12,7 @@ use Rattle.std.proofs.lemmas.Bool.Decides.{Decides-eqb}
 use Rattle.std.proofs.lemmas.Cmp.{nat_cmp_total}
 use Rattle.std.proofs.lemmas.List.{append-nil}
 use Rattle.gf_maximal.specs.declared.run.Run.{Run}
-use Rattle.gf_maximal.specs.Growing.{is_in, meets, without, is_within, joined}
+use Rattle.gf_maximal.specs.Growing.{is_in, intersects, without, is_within, joined}
 use Rattle.gf_maximal.specs.Runs.{numbers_of, members, AreRuns, Serves, after, is_inside}
 use Rattle.gf_maximal.specs.Runs.{touches, covers, piece, cut, all_cut}
 use Rattle.gf_maximal.specs.Runs.{absorb, put_into, put, single}
@@ -27,7 +27,7 @@ use Rattle.gf_maximal.proofs.RunLemmas.{nat_lt_false}
 use Rattle.gf_maximal.proofs.RunSetLemmas.{In, Has, in_range, in_numbers, in_members, range_rises}
 use Rattle.gf_maximal.proofs.RunSetLemmas.{members_rise, members_are, after_runs, piece_has}
 use Rattle.gf_maximal.proofs.RunSetLemmas.{piece_runs, rest, cut_is, bool_same, inside_true}
-use Rattle.gf_maximal.proofs.RunSetLemmas.{inside_from, touches_is, covers_is, meets_is, within_is}
+use Rattle.gf_maximal.proofs.RunSetLemmas.{inside_from, touches_is, covers_is, intersects_is, within_is}
 use Rattle.gf_maximal.proofs.RunSetLemmas.{list_any_same}
 
 -- ---- one more number
@@ -289,12 +289,12 @@ pub covers_told : (r : Run) (qs ss : List Run) (g : List ℕ) (t : Bool) → ss 
     → members qs ≡ g → t ≡ covers ss r → t ≡ list_all (is_in g) (numbers_of r)
 covers_told r qs ss g t e w v k = rw (← v) (subst (λ z. t ≡ covers z r) e k ∙ covers_is qs r w)
 
-pub meets_told : (rs qs rs2 qs2 : List Run) (k g : List ℕ) (t : Bool) → rs2 ≡ rs → qs2 ≡ qs
-    → AreRuns qs → members rs ≡ k → members qs ≡ g → t ≡ list_any (touches qs2) rs2 → t ≡ meets k g
-meets_told rs qs rs2 qs2 k g t e f w v u h = rw (← v, ← u)
+pub intersects_told : (rs qs rs2 qs2 : List Run) (k g : List ℕ) (t : Bool) → rs2 ≡ rs → qs2 ≡ qs
+    → AreRuns qs → members rs ≡ k → members qs ≡ g → t ≡ list_any (touches qs2) rs2 → t ≡ intersects k g
+intersects_told rs qs rs2 qs2 k g t e f w v u h = rw (← v, ← u)
     (h ∙ (ap (λ z. list_any (touches z) rs2) f ∙ (ap (list_any (touches qs)) e
     ∙ (list_any_same (touches qs) (λ r. list_any (is_inside r) (members qs))
-    (λ r. touches_is qs r w) rs ∙ meets_is rs (members qs)))))
+    (λ r. touches_is qs r w) rs ∙ intersects_is rs (members qs)))))
 
 pub within_told : (rs ss : List Run) (g k : List ℕ) (t : Bool) → ss ≡ rs → members rs ≡ k
     → t ≡ list_all (λ r. list_all (is_in g) (numbers_of r)) ss → t ≡ is_within k g

@@ -14,7 +14,7 @@ use Rattle.std.proofs.lemmas.List.Elements.{All-weaker, All-contains_itself, Con
 use Rattle.std.proofs.lemmas.List.Elements.{Contains-append_left, Contains-append_right}
 use Rattle.std.proofs.lemmas.List.Kept.{IsStrictlySortedBy-filter}
 use Rattle.gf_maximal.specs.declared.run.Run.{Run}
-use Rattle.gf_maximal.specs.Growing.{is_in, meets, without, is_within}
+use Rattle.gf_maximal.specs.Growing.{is_in, intersects, without, is_within}
 use Rattle.gf_maximal.specs.Runs.{numbers_of, members, AreRuns, after, is_inside}
 use Rattle.gf_maximal.specs.Runs.{first_touches, first_covers, touches, covers, piece, cut, all_cut}
 use Rattle.gf_maximal.specs.Tables.{IsRising}
@@ -473,9 +473,9 @@ covers_is qs r w = bool_same (covers qs r) (list_all (is_in (members qs)) (numbe
     ])
 
 -- some run of d holds one of g
-pub meets_is : (rs : List Run) (g : List ℕ) → list_any (λ r. list_any (is_inside r) g) rs ≡ meets
+pub intersects_is : (rs : List Run) (g : List ℕ) → list_any (λ r. list_any (is_inside r) g) rs ≡ intersects
     (members rs) g
-meets_is rs g = bool_same (list_any (λ r. list_any (is_inside r) g) rs) (meets (members rs) g)
+intersects_is rs g = bool_same (list_any (λ r. list_any (is_inside r) g) rs) (intersects (members rs) g)
     (λ t. let o = list_any_true (λ r. list_any (is_inside r) g) rs t in
     let p = list_any_true (is_inside o.0) g o.2 in
     list_any_from (is_in (members rs)) g p.0 p.1

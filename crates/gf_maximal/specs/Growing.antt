@@ -10,12 +10,12 @@ abbrev pub is_in : List ℕ → ℕ → Bool
 is_in g a = list_any (λ b. a == b) g
 
 -- g has a number of d
-abbrev pub meets : List ℕ → List ℕ → Bool
-meets d g = list_any (is_in d) g
+abbrev pub intersects : List ℕ → List ℕ → Bool
+intersects d g = list_any (is_in d) g
 
 -- g has no number of d
-abbrev pub misses : List ℕ → List ℕ → Bool
-misses d g = not (meets d g)
+abbrev pub is_disjoint : List ℕ → List ℕ → Bool
+is_disjoint d g = not (intersects d g)
 
 -- the numbers of g that are not in d
 abbrev pub without : List ℕ → List ℕ → List ℕ
@@ -51,9 +51,9 @@ maximal others gs = fold (take_up others) [] gs
 -- the maximal remainders without d
 abbrev pub next : List ℕ → ℕ → List (List ℕ) → List (List ℕ)
 next d x gs =
-    filter (meets d) gs
-    ++ map (joined x) (filter (misses d) gs
-    ++ maximal (filter (misses d) gs) (map (without d) (filter (meets d) gs)))
+    filter (intersects d) gs
+    ++ map (joined x) (filter (is_disjoint d) gs
+    ++ maximal (filter (is_disjoint d) gs) (map (without d) (filter (intersects d) gs)))
 
 -- what f makes of the numbers g, rising
 abbrev pub image : (ℕ → ℕ) → List ℕ → List ℕ

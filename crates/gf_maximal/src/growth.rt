@@ -4,7 +4,7 @@ ghost use Rattle.std.specs.Prelude.{◌≡◌, ◌+◌, ◌^◌, ◌<◌, map, f
 ghost use Rattle.std.specs.Prelude.{◌++◌, ◌≤◌};
 ghost use Rattle.std.specs.Vec.{vec_len, vec_capacity};
 ghost use Rattle.std.specs.List.{list_any};
-ghost use Rattle.gf_maximal.specs.Growing.{meets, misses, without, is_within, joined};
+ghost use Rattle.gf_maximal.specs.Growing.{intersects, is_disjoint, without, is_within, joined};
 ghost use Rattle.gf_maximal.specs.Growing.{take_up, maximal, next};
 
 use crate::numbers::Numbers;
@@ -17,11 +17,11 @@ fn copies_missing(
     numbers: &Numbers,
     sets: &[Numbers],
 ) -> Result<Vec<Numbers>, OutOfMemory>
-    ensures { IfOk result (λ found. found.items ≡ filter (misses numbers.now) sets.now) }
+    ensures { IfOk result (λ found. found.items ≡ filter (is_disjoint numbers.now) sets.now) }
 {
     let mut found = Vec::new(alloc);
     for set in sets {
-        if !numbers.meets(set) {
+        if !numbers.intersects(set) {
             found.push(set.copy(alloc)?)?;
         }
     }
@@ -63,11 +63,11 @@ fn maximal_remainders(
     others: &[Numbers],
 ) -> Result<Vec<Numbers>, OutOfMemory>
     ensures { IfOk result (λ found. found.items
-        ≡ maximal others.now (map (without numbers.now) (filter (meets numbers.now) sets.now))) }
+        ≡ maximal others.now (map (without numbers.now) (filter (intersects numbers.now) sets.now))) }
 {
     let mut taken = Vec::new(alloc);
     for set in sets {
-        if numbers.meets(set) {
+        if numbers.intersects(set) {
             take_up(others, set.without(alloc, numbers)?, &mut taken)?;
         }
     }
@@ -86,12 +86,12 @@ fn join_all(number: usize, sets: &mut Vec<Numbers>) -> Result<(), OutOfMemory>
 }
 
 /// Drops the sets that have none of the numbers.
-fn keep_meeting(numbers: &Numbers, sets: &mut Vec<Numbers>)
-    ensures items { sets.new.items ≡ filter (meets numbers.now) sets.old.items }
+fn keep_intersecting(numbers: &Numbers, sets: &mut Vec<Numbers>)
+    ensures items { sets.new.items ≡ filter (intersects numbers.now) sets.old.items }
     ensures len { vec_len sets.new ≤ vec_len sets.old }
     ensures capacity { vec_capacity sets.new ≡ vec_capacity sets.old }
 {
-    sets.retain(|set| numbers.meets(set));
+    sets.retain(|set| numbers.intersects(set));
 }
 
 /// The new sets of a number that conflicts with these numbers.
@@ -103,9 +103,9 @@ fn new_sets(
 ) -> Result<Vec<Numbers>, OutOfMemory>
     requires { number + 1 < 2 ^ 64 }
     ensures { IfOk result (λ found. found.items
-        ≡ map (joined number) (filter (misses rivals.now) sets.now
-        ++ maximal (filter (misses rivals.now) sets.now)
-        (map (without rivals.now) (filter (meets rivals.now) sets.now)))) }
+        ≡ map (joined number) (filter (is_disjoint rivals.now) sets.now
+        ++ maximal (filter (is_disjoint rivals.now) sets.now)
+        (map (without rivals.now) (filter (intersects rivals.now) sets.now)))) }
 {
     let mut found = copies_missing(alloc, rivals, sets)?;
     let mut remainders = maximal_remainders(alloc, rivals, sets, &found)?;
@@ -128,7 +128,7 @@ pub fn grow(
 {
     let mut found = new_sets(alloc, rivals, number, sets)?;
     sets.reserve(found.len())?;
-    keep_meeting(rivals, sets);
+    keep_intersecting(rivals, sets);
     sets.append(&mut found)?;
     Ok(())
 }

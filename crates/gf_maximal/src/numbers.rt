@@ -5,7 +5,7 @@ ghost use Rattle.std.specs.Prelude.{All, bytes_eq};
 ghost use Rattle.std.specs.BTreeSet.{insert_key};
 ghost use Rattle.std.specs.List.{fold, list_any, list_all, range_with_len};
 ghost use Rattle.std.specs.Ordering.{nat_cmp};
-ghost use Rattle.gf_maximal.specs.Growing.{is_in, meets, without, is_within, joined};
+ghost use Rattle.gf_maximal.specs.Growing.{is_in, intersects, without, is_within, joined};
 ghost use Rattle.gf_maximal.specs.Tables.{IsRising};
 ghost use Rattle.gf_maximal.specs.Growing.{united, common};
 ghost use Rattle.gf_maximal.specs.Runs.{is_inside, members, numbers_of};
@@ -127,8 +127,8 @@ impl Numbers {
     }
 
     /// Whether a number of the set is one of the others.
-    pub fn meets(&self, others: &Numbers) -> bool
-        ensures { result ≡ meets self.now others.now }
+    pub fn intersects(&self, others: &Numbers) -> bool
+        ensures { result ≡ intersects self.now others.now }
     {
         any_touches(&self.runs, &others.runs)
     }

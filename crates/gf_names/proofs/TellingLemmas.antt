@@ -17,7 +17,7 @@ use Rattle.gf_maximal.proofs.InsertLemmas.{inserted_all, holds_all}
 use Rattle.gf_groups.proofs.IdLemmas.{id_cmp_total, id_cmp_exact}
 use Rattle.gf_ops.specs.declared.op.Op.{Op}
 use Rattle.gf_ops.specs.declared.op.OpId.{OpId}
-use Rattle.gf_ops.specs.AimTests.{MeetsAt}
+use Rattle.gf_ops.specs.AimTests.{ConflictsAt}
 use Rattle.gf_ops.specs.OperationOrder.{id_cmp}
 use Rattle.gf_ops.specs.ValidHistory.{IsValid}
 use Rattle.gf_ops.specs.Version.{IsMember}
@@ -25,8 +25,8 @@ use Rattle.gf_ops.proofs.HistoryLemmas.{site_in_range}
 use Rattle.gf_ops.proofs.ValidityLemmas.{same_op}
 use Rattle.gf_names.specs.RisingIds.{IsRisingOf}
 use Rattle.gf_names.specs.Telling.{IsTelling, AreTelling}
-use Rattle.gf_names.specs.LastMeeting.{AreOfOneSite, IsAbove, IsLastMeeting, TellsLast, TellsAt}
-use Rattle.gf_names.specs.LastMeeting.{TellsFrom}
+use Rattle.gf_names.specs.LastConflict.{AreOfOneSite, IsAbove, IsLastConflict, TellsLast, TellsAt}
+use Rattle.gf_names.specs.LastConflict.{TellsFrom}
 
 pub set_more : (ids : List OpId) (n : ℕ) (d : OpId) (old new : List OpId) → n < length ids
     → fold (insert_key id_cmp) old (drop n ids) ≡ fold (insert_key id_cmp) [] ids
@@ -58,11 +58,11 @@ module _ (h : List Op) (x : Op) (ids : List OpId) (n : ℕ) (d : OpId) (within :
       c)
 
   pub last_more : (last : Option OpId) → TellsLast h (take n ids) x last → IsAbove here last
-      → MeetsAt h x here → TellsLast h (take (n + 1) ids) x (Some here)
+      → ConflictsAt h x here → TellsLast h (take (n + 1) ids) x (Some here)
   last_more last t above m = record {
     listed = subst (λ (l : List OpId). Contains l here) (sym more)
         (Contains-push (take n ids) here);
-    meets = m;
+    conflicts = m;
     last = λ j c k. elim (cases j c) [
       | inl b ↦ below last t above j b k
       | inr e ↦ subst (λ (i : OpId). i.seq ≤ here.seq) e (omega arith)
@@ -70,24 +70,24 @@ module _ (h : List Op) (x : Op) (ids : List OpId) (n : ℕ) (d : OpId) (within :
   }
     where
       below : (l : Option OpId) → TellsLast h (take n ids) x l → IsAbove here l → (j : OpId)
-          → Contains (take n ids) j → MeetsAt h x j → j.seq ≤ here.seq
+          → Contains (take n ids) j → ConflictsAt h x j → j.seq ≤ here.seq
       below None s a j b k = absurd (s j b k)
       below (Some l) s a j b k = let p = s.last j b k in omega arith
 
   pub last_same : (last : Option OpId) → TellsLast h (take n ids) x last
-      → ¬ (IsAbove here last × MeetsAt h x here) → TellsLast h (take (n + 1) ids) x last
+      → ¬ (IsAbove here last × ConflictsAt h x here) → TellsLast h (take (n + 1) ids) x last
   last_same None t not = λ j c k. elim (cases j c) [
     | inl b ↦ t j b k
-    | inr e ↦ not (tt, subst (MeetsAt h x) (sym e) k)
+    | inr e ↦ not (tt, subst (ConflictsAt h x) (sym e) k)
   ]
   last_same (Some l) t not = record {
     listed = subst (λ (s : List OpId). Contains s l) (sym more)
         (Contains-append_left (take n ids) (here ∷ []) l t.listed);
-    meets = t.meets;
+    conflicts = t.conflicts;
     last = λ j c k. elim (cases j c) [
       | inl b ↦ t.last j b k
       | inr e ↦ elim (cases_lt l.seq here.seq) [
-        | inl less ↦ absurd (not (less, subst (MeetsAt h x) (sym e) k))
+        | inl less ↦ absurd (not (less, subst (ConflictsAt h x) (sym e) k))
         | inr most ↦ subst (λ (i : OpId). i.seq ≤ l.seq) e (omega arith)
       ]
     ];
@@ -117,8 +117,8 @@ module _ (h : List Op) (valid : IsValid h) (ids : List OpId) (j : OpId) where
       λ c. inl c,
       λ w. elim w [
         | inl c ↦ c
-        | inr t ↦ absurd (none i t.last.listed (subst (λ (y : Op). MeetsAt h y i) (only i t)
-            t.last.meets))
+        | inr t ↦ absurd (none i t.last.listed (subst (λ (y : Op). ConflictsAt h y i) (only i t)
+            t.last.conflicts))
       ],
     )
 
@@ -133,9 +133,9 @@ module _ (h : List Op) (valid : IsValid h) (ids : List OpId) (j : OpId) where
       λ w. subst (λ (s : List OpId). Contains s i) (sym e) (elim w [
         | inl k ↦ Contains-append_left old (l ∷ []) i k
         | inr u ↦
-            let m = subst (λ (y : Op). IsLastMeeting h ids y i) (only i u) u.last in
-            let low = t.last i m.listed m.meets in
-            let high = m.last l t.listed t.meets in
+            let m = subst (λ (y : Op). IsLastConflict h ids y i) (only i u) u.last in
+            let low = t.last i m.listed m.conflicts in
+            let high = m.last l t.listed t.conflicts in
             let site = one l i t.listed m.listed in
             let seq : l.seq ≡ i.seq = omega arith in
             let same : l ≡ i = λ k. record { site = site k; seq = seq k } in
@@ -231,7 +231,7 @@ module _ (h : List Op) (members others : List OpId) where
       ↔ ((i.site ≡ s) × Tells i)
   site_told s i = (
     λ t.
-        let m = t.last.meets in
+        let m = t.last.conflicts in
         let own = (of_site s i).0 t.last.listed in (
           own.1,
           record {
@@ -260,7 +260,7 @@ module _ (h : List Op) (members others : List OpId) where
           other = t.other;
           last = record {
             listed = (of_site s i).1 (subst (Contains members) t.id l.member.grouped, p.0);
-            meets = record {
+            conflicts = record {
               op = t.op;
               contained = l.member.contained;
               id = t.id;

@@ -1,3 +1,3 @@
 pub mod Telling
 pub mod RisingIds
-pub mod LastMeeting
+pub mod LastConflict

@@ -2,13 +2,13 @@
 
 ghost use Rattle.std.specs.Prelude.{◌≡◌, ◌↔◌, ◌⊎◌, ◌==◌, Contains, filter};
 ghost use Rattle.std.specs.Prelude.{IfOk, OnOk, IsTrue};
-ghost use Rattle.gf_ops.specs.AimTests.{MeetsAt};
+ghost use Rattle.gf_ops.specs.AimTests.{ConflictsAt};
 ghost use Rattle.gf_ops.specs.Limits.{IsInRange};
 ghost use Rattle.gf_ops.specs.Version.{IsMember};
 ghost use Rattle.gf_ops.specs.declared.op.OpId.{OpId};
 ghost use Rattle.gf_names.specs.Telling.{AreTelling};
-ghost use Rattle.gf_names.specs.LastMeeting.{AreOfOneSite, IsAbove};
-ghost use Rattle.gf_names.specs.LastMeeting.{TellsLast, TellsFrom, TellsAt};
+ghost use Rattle.gf_names.specs.LastConflict.{AreOfOneSite, IsAbove};
+ghost use Rattle.gf_names.specs.LastConflict.{TellsLast, TellsFrom, TellsAt};
 
 use crate::rising;
 use gf_base::OutOfMemory;
@@ -50,7 +50,7 @@ fn of_site(alloc: Global, ids: &[OpId], site: u8) -> Result<Vec<OpId>, OutOfMemo
     )
 }
 
-/// Adds the last of the ids that meets each of the others.
+/// Adds the last of the ids that conflicts with each of the others.
 fn add_lasts(
     history: &History,
     ids: &[OpId],
@@ -67,7 +67,7 @@ fn add_lasts(
     Ok(())
 }
 
-/// Adds the last of the ids that meets the operation under another one, if there is one.
+/// Adds the last of the ids that conflicts with the operation under another one, if there is one.
 fn add_last(
     history: &History,
     ids: &[OpId],
@@ -83,7 +83,7 @@ fn add_last(
     let Some(other) = history.get(other) else {
         return Ok(());
     };
-    let Some(last) = last_meeting(history, ids, other) else {
+    let Some(last) = last_conflict(history, ids, other) else {
         return Ok(());
     };
     found.push(last)?;
@@ -91,7 +91,7 @@ fn add_last(
 }
 
 /// Of the ids of one site, the last whose operation conflicts directly with another one.
-fn last_meeting(history: &History, ids: &[OpId], other: &Op) -> Option<OpId>
+fn last_conflict(history: &History, ids: &[OpId], other: &Op) -> Option<OpId>
     requires { IsInRange other.now }
     ensures { TellsLast history.now.ops ids.now other.now result }
 {
@@ -108,9 +108,9 @@ fn last_meeting(history: &History, ids: &[OpId], other: &Op) -> Option<OpId>
 /// the one before, if there is one.
 fn is_later(history: &History, id: OpId, last: Option<OpId>, other: &Op) -> bool
     requires { IsInRange other.now }
-    ensures { IsTrue result ↔ (IsAbove id last × MeetsAt history.now.ops other.now id) }
+    ensures { IsTrue result ↔ (IsAbove id last × ConflictsAt history.now.ops other.now id) }
 {
-    is_above(id, last) && meets(history, other, id)
+    is_above(id, last) && conflicts_at(history, other, id)
 }
 
 /// Whether an id has a higher number than the one before, if there is one.
@@ -124,9 +124,9 @@ fn is_above(id: OpId, last: Option<OpId>) -> bool
 }
 
 /// Whether an operation conflicts directly with the one under this id.
-fn meets(history: &History, op: &Op, id: OpId) -> bool
+fn conflicts_at(history: &History, op: &Op, id: OpId) -> bool
     requires { IsInRange op.now }
-    ensures { IsTrue result ↔ MeetsAt history.now.ops op.now id }
+    ensures { IsTrue result ↔ ConflictsAt history.now.ops op.now id }
 {
     // The clause of `ops` says that the history is valid.
     let _ = history.ops();

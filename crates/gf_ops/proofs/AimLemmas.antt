@@ -14,11 +14,11 @@ use Rattle.gf_ops.specs.declared.op.OpId.{OpId}
 use Rattle.gf_ops.specs.declared.change.Change.{Change}
 use Rattle.gf_ops.specs.declared.change.Change.TheVariants.{Create, Set}
 use Rattle.gf_ops.specs.Aims.{MayAimAt}
-use Rattle.gf_ops.specs.AimTests.{after_id, IsWithinAim, FitsAim, MeetsAt, MemberMeets, AimMeets}
+use Rattle.gf_ops.specs.AimTests.{after_id, IsWithinAim, FitsAim, ConflictsAt, MemberConflicts, AimConflicts}
 use Rattle.gf_ops.specs.Attribute.{change_aim, aim_of}
 use Rattle.gf_ops.specs.Limits.{is_id, is_clock, is_value, is_change, is_aim, IsInRange}
 use Rattle.gf_ops.specs.OperationOrder.{id_cmp, rises}
-use Rattle.gf_ops.specs.Conflict.{Conflict, MeetsBrought}
+use Rattle.gf_ops.specs.Conflict.{Conflict, ConflictsWithBrought}
 use Rattle.gf_ops.specs.DirectConflict.{DirectConflict}
 use Rattle.gf_ops.specs.ValidHistory.{IsValid}
 use Rattle.gf_base.proofs.ListLemmas.{Contains-cons_cases, Contains-cons_head, Contains-cons_tail}
@@ -214,16 +214,16 @@ module _ (h : List Op) (valid : IsValid h) (m : Op) (there : Contains h m) (i : 
   only : (x : Op) → Contains h x → x.id ≡ i → x ≡ m
   only x c e = same_op h valid x m c there (e ∙ sym id)
 
-  pub meets_found : (a : Op) → DirectConflict a m ↔ MeetsAt h a i
-  meets_found a = (
+  pub conflict_found : (a : Op) → DirectConflict a m ↔ ConflictsAt h a i
+  conflict_found a = (
     λ d. record { op = m; contained = there; id = id; direct = d },
     λ t. subst (DirectConflict a) (only t.op t.contained t.id) t.direct,
   )
 
-  pub brought_found : (b : Op) → MeetsBrought h m b ↔ MemberMeets h i b
+  pub brought_found : (b : Op) → ConflictsWithBrought h m b ↔ MemberConflicts h i b
   brought_found b = (
-    λ d. record { op = m; contained = there; id = id; meets = d },
-    λ t. subst (λ x. MeetsBrought h x b) (only t.op t.contained t.id) t.meets,
+    λ d. record { op = m; contained = there; id = id; conflicts = d },
+    λ t. subst (λ x. ConflictsWithBrought h x b) (only t.op t.contained t.id) t.conflicts,
   )
 
 -- ---- the ids of an aim
@@ -240,17 +240,17 @@ all_before_more P ids n e l f p k d m b = elim (cases_lt k n) [
       subst P (sym (ap (λ j. slice_index_or ids j d) s ∙ get_or_default ids n d e l)) p
 ]
 
-pub aim_conflict : (h : List Op) (a b : Op) → AimMeets h (aim_of a) b → Conflict h a b
+pub aim_conflict : (h : List Op) (a b : Op) → AimConflicts h (aim_of a) b → Conflict h a b
 aim_conflict h a b t = record {
   first = t.op;
-  second = t.meets.second;
+  second = t.conflicts.second;
   brings_first = inr (record { contained = t.contained; aimed = t.among });
-  brings_second = t.meets.brings;
-  direct = t.meets.direct;
+  brings_second = t.conflicts.brings;
+  direct = t.conflicts.direct;
 }
 
-pub conflict_aim : (h : List Op) (a b : Op) → ¬ (MeetsBrought h a b) → Conflict h a b
-    → AimMeets h (aim_of a) b
+pub conflict_aim : (h : List Op) (a b : Op) → ¬ (ConflictsWithBrought h a b) → Conflict h a b
+    → AimConflicts h (aim_of a) b
 conflict_aim h a b off c = elim c.brings_first [
   | inl e ↦
       absurd (off (record {
@@ -262,7 +262,7 @@ conflict_aim h a b off c = elim c.brings_first [
     op = c.first;
     contained = m.contained;
     among = m.aimed;
-    meets = record { second = c.second; brings = c.brings_second; direct = c.direct };
+    conflicts = record { second = c.second; brings = c.brings_second; direct = c.direct };
   }
 ]
 

@@ -14,10 +14,10 @@ use Rattle.gf_ops.specs.declared.op.ObjectId.{ObjectId}
 use Rattle.gf_ops.specs.declared.change.Start.{Start}
 use Rattle.gf_ops.specs.declared.change.Change.TheVariants.{Create, Set}
 use Rattle.gf_ops.specs.declared.change.Value.{Value}
-use Rattle.gf_ops.specs.AimTests.{MeetsAt}
+use Rattle.gf_ops.specs.AimTests.{ConflictsAt}
 use Rattle.gf_ops.specs.AimWalk.{place_of, Sets, IsOfSite, KnewAt, SetsAt, SetsSome, GivesAnother}
-use Rattle.gf_ops.specs.AimWalk.{NoneKnew, NoneAbove, IsLatest, TellsOne, IsAimTable, MeetsLatest}
-use Rattle.gf_ops.specs.AimWalk.{MeetsTable}
+use Rattle.gf_ops.specs.AimWalk.{NoneKnew, NoneAbove, IsLatest, TellsOne, IsAimTable, ConflictsWithLatest}
+use Rattle.gf_ops.specs.AimWalk.{ConflictsWithTable}
 use Rattle.gf_ops.specs.Attribute.{object_of}
 use Rattle.gf_ops.specs.ConflictTests.{sets_another}
 use Rattle.gf_ops.specs.DirectConflict.{DirectConflict}
@@ -54,28 +54,28 @@ module _ (h : List Op) (valid : IsValid h) where
 
   module _ (table : List (Option Latest)) (m : Op) (there : Contains h m) (i : OpId)
       (id : m.id ≡ i) where
-    found : (q : MeetsTable h table i) → q.op ≡ m
+    found : (q : ConflictsWithTable h table i) → q.op ≡ m
     found q = same_op h valid q.op m q.contained there (q.id ∙ sym id)
 
-    pub made_meets : (s : Start) → m.change ≡ Create s → ¬ (MeetsTable h table i)
-    made_meets s e q = let f : Set q.sets.object q.value q.sets.aim ≡ Create s = sym q.sets.is
+    pub made_conflicts : (s : Start) → m.change ≡ Create s → ¬ (ConflictsWithTable h table i)
+    made_conflicts s e q = let f : Set q.sets.object q.value q.sets.aim ≡ Create s = sym q.sets.is
         ∙ (ap (λ (z : Op). z.change) (found q) ∙ e) in absurd cc
 
     module _ (o : ObjectId) (v : Value) (aim : List OpId) (e : m.change ≡ Set o v aim) (k : ℕ)
         (p : k ≡ place_of v) where
-      read : (q : MeetsTable h table i) → slice_index_or table k None ≡ Some q.latest
+      read : (q : ConflictsWithTable h table i) → slice_index_or table k None ≡ Some q.latest
       read q =
           let sets = subst (λ z. Sets z q.value) (found q) q.sets in
           let same : place_of q.value ≡ k = ap place_of
           (sets_one m q.value v sets (record { object = o; aim = aim; is = e })) ∙ sym p in
           ap (λ n. slice_index_or table n None) (sym same) ∙ q.at
 
-      pub none_meets : slice_index_or table k None ≡ None → ¬ (MeetsTable h table i)
-      none_meets none q = let f : Some q.latest ≡ None = sym (read q) ∙ none in absurd cc
+      pub none_conflicts : slice_index_or table k None ≡ None → ¬ (ConflictsWithTable h table i)
+      none_conflicts none q = let f : Some q.latest ≡ None = sym (read q) ∙ none in absurd cc
 
-      pub some_meets : (l : Latest) → slice_index_or table k None ≡ Some l
-          → MeetsLatest h m l ↔ MeetsTable h table i
-      some_meets l at = (
+      pub some_conflicts : (l : Latest) → slice_index_or table k None ≡ Some l
+          → ConflictsWithLatest h m l ↔ ConflictsWithTable h table i
+      some_conflicts l at = (
         λ w. record {
           op = m;
           contained = there;
@@ -84,12 +84,12 @@ module _ (h : List Op) (valid : IsValid h) where
           sets = record { object = o; aim = aim; is = e };
           latest = l;
           at = ap (λ n. slice_index_or table n None) (sym p) ∙ at;
-          meets = w;
+          conflicts = w;
         },
         λ q.
             let f : Some q.latest ≡ Some l = sym (read q) ∙ at in
             let g : q.latest ≡ l = cc in
-            subst (MeetsLatest h m) g (subst (λ z. MeetsLatest h z q.latest) (found q) q.meets),
+            subst (ConflictsWithLatest h m) g (subst (λ z. ConflictsWithLatest h z q.latest) (found q) q.conflicts),
       )
 
   of_site : (ids : List OpId) (t : ℕ) (i : OpId) (v : Value) (s : SetsAt h t i v) → Contains ids i
@@ -109,7 +109,7 @@ module _ (h : List Op) (valid : IsValid h) where
     -- with y
     behind_met : (y : Op) → IsOfSite h ids t y → DirectConflict x y
         → (v w : Value) (i : OpId) (z : SetsAt h t i w) → Contains ids i → y.id.seq ≤ i.seq
-        → Sets x v → place_of v ≡ place_of w → v ≢ w → MeetsAt h x i
+        → Sets x v → place_of v ≡ place_of w → v ≢ w → ConflictsAt h x i
     behind_met y of d v w i z c l s e n =
         let at = of_site ids t i w z c in
         let seq : z.op.id.seq ≡ i.seq = ap (λ (j : OpId). j.seq) z.id in
@@ -127,7 +127,7 @@ module _ (h : List Op) (valid : IsValid h) where
 
     entry_met : (y : Op) → IsOfSite h ids t y → DirectConflict x y
         → (b : SetBoth x y) (o : Option Latest) → TellsOne h ids t (place_of b.first) o
-        → (l : Latest) × (o ≡ Some l) × MeetsLatest h x l
+        → (l : Latest) × (o ≡ Some l) × ConflictsWithLatest h x l
     entry_met y of d b None none = absurd (none y b.second of b.sets_second (sym b.place))
     entry_met y of d b (Some l) k = elim (value_cases b.first k.value) [
       | inl e ↦
@@ -148,7 +148,7 @@ module _ (h : List Op) (valid : IsValid h) where
 
     -- THE LATEST TWO decide: the table has one with which it conflicts
     pub table_met : (table : List (Option Latest)) → IsAimTable h ids t table → (y : Op)
-        → IsOfSite h ids t y → DirectConflict x y → MeetsTable h table x.id
+        → IsOfSite h ids t y → DirectConflict x y → ConflictsWithTable h table x.id
     table_met table tells y of d =
         let b = both_set h valid x y there of.contained x.change y.change refl refl d in
         let met = entry_met y of d b (slice_index_or table (place_of b.first) None)
@@ -161,18 +161,18 @@ module _ (h : List Op) (valid : IsValid h) where
           sets = b.sets_first;
           latest = met.0;
           at = met.1;
-          meets = met.2;
+          conflicts = met.2;
         }
 
   -- and with what the table has it conflicts
   pub table_tells : (ids : List OpId) (t : ℕ) (table : List (Option Latest))
-      → IsAimTable h ids t table → (i : OpId) (m : MeetsTable h table i)
+      → IsAimTable h ids t table → (i : OpId) (m : ConflictsWithTable h table i)
       → (y : Op) × IsOfSite h ids t y × DirectConflict m.op y
   table_tells ids t table tells i m =
       let k : IsLatest h ids t (place_of m.value) m.latest = subst
       (TellsOne h ids t (place_of m.value)) m.at (tells.each (place_of m.value) (placed m.value).0)
       in
-      elim m.meets [
+      elim m.conflicts [
         | inl a ↦ (
           a.op,
           record {

@@ -8,7 +8,7 @@ use Rattle.gf_ops.specs.declared.op.OpId.{OpId}
 use Rattle.gf_ops.specs.declared.op.ObjectId.{ObjectId}
 use Rattle.gf_ops.specs.Aims.{AimsAt, Brings, HasNoAims}
 use Rattle.gf_ops.specs.Attribute.{aim_of, object_of}
-use Rattle.gf_ops.specs.Conflict.{Conflict, MeetsBrought, ConflictsByAim}
+use Rattle.gf_ops.specs.Conflict.{Conflict, ConflictsWithBrought, ConflictsByAim}
 use Rattle.gf_ops.specs.DirectConflict.{DirectConflict}
 use Rattle.gf_ops.specs.OperationOrder.{Precedes}
 use Rattle.gf_ops.specs.ValidHistory.{IsValid}
@@ -37,8 +37,8 @@ conflict_direct h a b d = record {
   direct = d;
 }
 
-pub conflict_meets : (h : List Op) (a b : Op) → MeetsBrought h a b → Conflict h a b
-conflict_meets h a b m = record {
+pub conflict_brought : (h : List Op) (a b : Op) → ConflictsWithBrought h a b → Conflict h a b
+conflict_brought h a b m = record {
   first = a;
   second = m.second;
   brings_first = inl refl;
@@ -47,7 +47,7 @@ conflict_meets h a b m = record {
 }
 
 pub conflict_parted : (h : List Op) (a b : Op) → Conflict h a b
-    → MeetsBrought h a b ⊎ ConflictsByAim h a b
+    → ConflictsWithBrought h a b ⊎ ConflictsByAim h a b
 conflict_parted h a b c = elim c.brings_first [
   | inl e ↦ inl (record {
     second = c.second;

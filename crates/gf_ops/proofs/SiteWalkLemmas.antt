@@ -13,7 +13,7 @@ use Rattle.gf_ops.specs.declared.op.OpId.{OpId}
 use Rattle.gf_ops.specs.AimTests.{AreDirectlyCompatible, MayAim}
 use Rattle.gf_ops.specs.Attribute.{aim_of, object_of}
 use Rattle.gf_ops.specs.AimWalk.{IsOfSite, AreOnOne, AreParted, ArePartedBelow, KnewAt, NoneKnew}
-use Rattle.gf_ops.specs.AimWalk.{NoneAbove, IsAimTable, MeetsTable, IsNoted}
+use Rattle.gf_ops.specs.AimWalk.{NoneAbove, IsAimTable, ConflictsWithTable, IsNoted}
 use Rattle.gf_ops.specs.DirectConflict.{DirectConflict}
 use Rattle.gf_ops.specs.OperationOrder.{IsSite, entry, id_cmp, rises}
 use Rattle.gf_ops.specs.ValidHistory.{IsValid}
@@ -164,10 +164,10 @@ module _ (h : List Op) (valid : IsValid h) (ids : List OpId)
 
     module _ (one : AreOnOne h ids) (is : IsSite s) (site : (get_or ids n d).site ≡ s) (to : ℕ)
         (new : List (Option Latest)) (noted : IsNoted h ids t to (get_or ids n d) new) where
-      -- where the operation meets none of the latest, it meets none of its site
+      -- where the operation conflicts with none of the latest, it does with none of its site
       met_now : ((e : OpId) → to < length ids
           → KnewAt h t (get_or ids n d) (slice_index_or ids to e))
-          → ¬ (MeetsTable h new (get_or ids n d)) → (x y : Op) → IsOfSite h ids s x
+          → ¬ (ConflictsWithTable h new (get_or ids n d)) → (x y : Op) → IsOfSite h ids s x
           → x.id ≡ get_or ids n d → IsOfSite h ids t y → ¬ (DirectConflict x y)
       met_now stop off x y of id others direct =
           elim (rest_knew t to (get_or ids n d) (subst IsSite (sym site) is) stop y others) [
@@ -179,14 +179,14 @@ module _ (h : List Op) (valid : IsValid h) (ids : List OpId)
                 (of_first to t z at).among in
                 let met = table_met h valid (take to ids) t x of.contained unknowing object new
                 noted.tells y first direct in
-                off (subst (MeetsTable h new) id met)
+                off (subst (ConflictsWithTable h new) id met)
             | inr known ↦ direct.concurrent.not_before
                 (subst (λ j. j.seq ≤ entry y.past j.site) (sym id) known)
           ]
 
       pub walk_goes : ((e : OpId) → to < length ids
           → KnewAt h t (get_or ids n d) (slice_index_or ids to e))
-          → ¬ (MeetsTable h new (get_or ids n d)) → IsWalked h ids s t (n + 1) to new
+          → ¬ (ConflictsWithTable h new (get_or ids n d)) → IsWalked h ids s t (n + 1) to new
       walk_goes stop off = record {
         within = noted.within;
         tells = noted.tells;
@@ -202,8 +202,8 @@ module _ (h : List Op) (valid : IsValid h) (ids : List OpId)
         ];
       }
 
-      pub walk_meets : MeetsTable h new (get_or ids n d) → ¬ (AreParted h ids ids s t)
-      walk_meets q parted =
+      pub walk_conflicts : ConflictsWithTable h new (get_or ids n d) → ¬ (AreParted h ids ids s t)
+      walk_conflicts q parted =
           let (y, of, direct) = table_tells h valid (take to ids) t new noted.tells (get_or ids n d)
           q in
           let here : IsOfSite h ids s q.op = record {

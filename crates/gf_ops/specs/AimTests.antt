@@ -4,7 +4,7 @@ use Rattle.gf_ops.specs.declared.op.Op.{Op}
 use Rattle.gf_ops.specs.declared.op.OpId.{OpId}
 use Rattle.gf_ops.specs.Aims.{MayAimAt}
 use Rattle.gf_ops.specs.Attribute.{aim_of, object_of}
-use Rattle.gf_ops.specs.Conflict.{MeetsBrought}
+use Rattle.gf_ops.specs.Conflict.{ConflictsWithBrought}
 use Rattle.gf_ops.specs.DirectConflict.{DirectConflict}
 use Rattle.gf_ops.specs.OperationOrder.{Precedes}
 
@@ -28,14 +28,14 @@ abbrev pub MayAim : List Op → Op → List OpId → Type 0
 MayAim h a ids = (i : OpId) → Contains ids i → MayAimAt h a i
 
 -- a conflicts directly with the operation of h under the id i
-pub record MeetsAt (h : List Op) (a : Op) (i : OpId) : Type 0 where
+pub record ConflictsAt (h : List Op) (a : Op) (i : OpId) : Type 0 where
   pub op : Op
   pub contained : Contains h op
   pub id : op.id ≡ i
   pub direct : DirectConflict a op
 
 -- a conflicts directly with an operation of h under one of the ids
-pub record MeetsOne (h : List Op) (a : Op) (ids : List OpId) : Type 0 where
+pub record ConflictsWithSome (h : List Op) (a : Op) (ids : List OpId) : Type 0 where
   pub op : Op
   pub contained : Contains h op
   pub among : Contains ids op.id
@@ -47,15 +47,15 @@ AreDirectlyCompatible h ids = (x y : Op) → Contains h x → Contains h y → C
     → Contains ids y.id → ¬ (DirectConflict x y)
 
 -- the operation of h under the id i conflicts directly with b, or with one that b aims at
-pub record MemberMeets (h : List Op) (i : OpId) (b : Op) : Type 0 where
+pub record MemberConflicts (h : List Op) (i : OpId) (b : Op) : Type 0 where
   pub op : Op
   pub contained : Contains h op
   pub id : op.id ≡ i
-  pub meets : MeetsBrought h op b
+  pub conflicts : ConflictsWithBrought h op b
 
 -- an operation of h under one of the ids conflicts directly with b, or with one that b aims at
-pub record AimMeets (h : List Op) (ids : List OpId) (b : Op) : Type 0 where
+pub record AimConflicts (h : List Op) (ids : List OpId) (b : Op) : Type 0 where
   pub op : Op
   pub contained : Contains h op
   pub among : Contains ids op.id
-  pub meets : MeetsBrought h op b
+  pub conflicts : ConflictsWithBrought h op b

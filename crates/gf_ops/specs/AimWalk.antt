@@ -10,7 +10,7 @@ use Rattle.gf_ops.specs.declared.change.Value.TheVariants.{Shown}
 use Rattle.gf_ops.specs.declared.op.Op.{Op}
 use Rattle.gf_ops.specs.declared.op.OpId.{OpId}
 use Rattle.gf_ops.specs.declared.op.ObjectId.{ObjectId}
-use Rattle.gf_ops.specs.AimTests.{MeetsAt}
+use Rattle.gf_ops.specs.AimTests.{ConflictsAt}
 use Rattle.gf_ops.specs.Attribute.{object_of}
 use Rattle.gf_ops.specs.ConflictTests.{sets_another}
 use Rattle.gf_ops.specs.DirectConflict.{DirectConflict}
@@ -117,12 +117,12 @@ abbrev pub NoneAbove : List Op → List OpId → ℕ → OpId → Type 0
 NoneAbove h ids t i = i.site ≡ t → (y : Op) → IsOfSite h ids t y → y.id.seq ≤ i.seq
 
 -- x conflicts directly with one of the two setters that l names
-abbrev pub MeetsLatest : List Op → Op → Latest → Type 0
-MeetsLatest h x l = MeetsAt h x l.nearest ⊎ MeetsAt h x l.other
+abbrev pub ConflictsWithLatest : List Op → Op → Latest → Type 0
+ConflictsWithLatest h x l = ConflictsAt h x l.nearest ⊎ ConflictsAt h x l.other
 
 -- the operation of h under i conflicts directly with one of the two setters that the table names
 -- for its attribute
-pub record MeetsTable (h : List Op) (table : List (Option Latest)) (i : OpId) : Type 0 where
+pub record ConflictsWithTable (h : List Op) (table : List (Option Latest)) (i : OpId) : Type 0 where
   pub op : Op
   pub contained : Contains h op
   pub id : op.id ≡ i
@@ -130,7 +130,7 @@ pub record MeetsTable (h : List Op) (table : List (Option Latest)) (i : OpId) : 
   pub sets : Sets op value
   pub latest : Latest
   pub at : slice_index_or table (place_of value) None ≡ Some latest
-  pub meets : MeetsLatest h op latest
+  pub conflicts : ConflictsWithLatest h op latest
 
 -- the table has the setters of the first n ids; no operation of the site t under these knew i
 pub record IsNoted (h : List Op) (ids : List OpId) (t n : ℕ) (i : OpId)

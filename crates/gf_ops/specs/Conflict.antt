@@ -14,7 +14,7 @@ pub record Conflict (h : List Op) (a b : Op) : Type 0 where
   pub direct : DirectConflict first second
 
 -- a conflicts directly with b, or with one that b aims at
-pub record MeetsBrought (h : List Op) (a b : Op) : Type 0 where
+pub record ConflictsWithBrought (h : List Op) (a b : Op) : Type 0 where
   pub second : Op
   pub brings : Brings h b second
   pub direct : DirectConflict a second

@@ -7,7 +7,7 @@ ghost use Rattle.gf_ops.specs.declared.change.Value.{Value};
 ghost use Rattle.gf_ops.specs.AimTests.{AreDirectlyCompatible};
 ghost use Rattle.gf_ops.specs.AimWalk.{place_of, AreOnOne, AreParted, ArePartedBelow, KnewAt};
 ghost use Rattle.gf_ops.specs.AimWalk.{SetsAt, SetsSome, GivesAnother, IsLatest};
-ghost use Rattle.gf_ops.specs.AimWalk.{TellsOne, IsAimTable, NoneAbove, MeetsTable, IsNoted};
+ghost use Rattle.gf_ops.specs.AimWalk.{TellsOne, IsAimTable, NoneAbove, ConflictsWithTable, IsNoted};
 ghost use Rattle.gf_ops.specs.Limits.{IsInRange};
 ghost use Rattle.gf_ops.specs.OperationOrder.{IsSite, id_cmp, rises};
 
@@ -86,7 +86,7 @@ impl History {
         for id in ids {
             if id.site == site {
                 noted = self.note_unknowing(*id, ids, other, noted, &mut table);
-                if self.meets_table(*id, &table) {
+                if self.conflicts_with_table(*id, &table) {
                     return false;
                 }
             }
@@ -203,8 +203,8 @@ impl History {
 
     /// Whether the operation under this id conflicts directly with a setter that the table has for
     /// its attribute.
-    fn meets_table(&self, id: OpId, table: &[Option<Latest>; 6]) -> bool
-        ensures { IsTrue result ↔ MeetsTable self.now.ops table.now id }
+    fn conflicts_with_table(&self, id: OpId, table: &[Option<Latest>; 6]) -> bool
+        ensures { IsTrue result ↔ ConflictsWithTable self.now.ops table.now id }
     {
         // The clause of `ops` says that the history is valid.
         let _ = self.ops();
@@ -216,7 +216,7 @@ impl History {
         };
         match table[place_of(value)] {
             Some(latest) => {
-                self.meets_one(op, latest.nearest) || self.meets_one(op, latest.other)
+                self.conflicts_with_one(op, latest.nearest) || self.conflicts_with_one(op, latest.other)
             }
             None => false,
         }

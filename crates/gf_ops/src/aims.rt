@@ -3,8 +3,8 @@
 ghost use Rattle.std.specs.Prelude.{◌≡◌, ◌↔◌, IsTrue};
 ghost use Rattle.std.specs.List.{fold};
 ghost use Rattle.gf_ops.specs.Aims.{IsAimed, MayAimAt};
-ghost use Rattle.gf_ops.specs.AimTests.{after_id, IsWithinAim, FitsAim, MayAim, MeetsAt};
-ghost use Rattle.gf_ops.specs.AimTests.{MeetsOne};
+ghost use Rattle.gf_ops.specs.AimTests.{after_id, IsWithinAim, FitsAim, MayAim, ConflictsAt};
+ghost use Rattle.gf_ops.specs.AimTests.{ConflictsWithSome};
 ghost use Rattle.gf_ops.specs.Attribute.{aim_of, object_of};
 ghost use Rattle.gf_ops.specs.Limits.{IsInRange};
 ghost use Rattle.gf_ops.specs.OperationOrder.{id_cmp, rises};
@@ -126,12 +126,12 @@ impl History {
     }
 
     /// Whether an operation conflicts directly with one under these ids.
-    pub(crate) fn meets(&self, op: &Op, ids: &[OpId]) -> bool
+    pub(crate) fn conflicts_with(&self, op: &Op, ids: &[OpId]) -> bool
         requires { IsInRange op.now }
-        ensures { IsTrue result ↔ MeetsOne self.now.ops op.now ids.now }
+        ensures { IsTrue result ↔ ConflictsWithSome self.now.ops op.now ids.now }
     {
         for id in ids {
-            if self.meets_one(op, *id) {
+            if self.conflicts_with_one(op, *id) {
                 return true;
             }
         }
@@ -139,9 +139,9 @@ impl History {
     }
 
     /// Whether an operation conflicts directly with the one under this id.
-    pub(crate) fn meets_one(&self, op: &Op, id: OpId) -> bool
+    pub(crate) fn conflicts_with_one(&self, op: &Op, id: OpId) -> bool
         requires { IsInRange op.now }
-        ensures { IsTrue result ↔ MeetsAt self.now.ops op.now id }
+        ensures { IsTrue result ↔ ConflictsAt self.now.ops op.now id }
     {
         // The clause of `ops` says that the history is valid.
         let _ = self.ops();

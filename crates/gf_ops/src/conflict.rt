@@ -6,8 +6,8 @@ ghost use Rattle.gf_ops.specs.Attribute.{form_value};
 ghost use Rattle.gf_ops.specs.declared.change.Attr.{Attr};
 ghost use Rattle.gf_ops.specs.declared.change.Value.{Value};
 ghost use Rattle.gf_ops.specs.DirectConflict.{DirectConflict};
-ghost use Rattle.gf_ops.specs.AimTests.{AimMeets, MemberMeets};
-ghost use Rattle.gf_ops.specs.Conflict.{Conflict, MeetsBrought};
+ghost use Rattle.gf_ops.specs.AimTests.{AimConflicts, MemberConflicts};
+ghost use Rattle.gf_ops.specs.Conflict.{Conflict, ConflictsWithBrought};
 ghost use Rattle.gf_ops.specs.ConflictTests.{is_another, sets_another, begins_apart, are_apart};
 ghost use Rattle.gf_ops.specs.Limits.{IsInRange};
 
@@ -34,25 +34,25 @@ pub fn conflicts(history: &History, a: &Op, b: &Op) -> bool
     requires b { IsInRange b.now }
     ensures { IsTrue result ↔ Conflict history.now.ops a.now b.now }
 {
-    meets_brought(history, a, b) || aim_meets(history, a.aim(), b)
+    conflicts_with_brought(history, a, b) || aim_conflicts(history, a.aim(), b)
 }
 
 /// Whether `a` conflicts directly with `b`, or with one that `b` aims at.
-pub fn meets_brought(history: &History, a: &Op, b: &Op) -> bool
+pub fn conflicts_with_brought(history: &History, a: &Op, b: &Op) -> bool
     requires a { IsInRange a.now }
     requires b { IsInRange b.now }
-    ensures { IsTrue result ↔ MeetsBrought history.now.ops a.now b.now }
+    ensures { IsTrue result ↔ ConflictsWithBrought history.now.ops a.now b.now }
 {
-    direct_conflict(a, b) || history.meets(a, b.aim())
+    direct_conflict(a, b) || history.conflicts_with(a, b.aim())
 }
 
 /// Whether an operation under these ids conflicts directly with `b`, or with one that `b` aims at.
-fn aim_meets(history: &History, aim: &[OpId], b: &Op) -> bool
+fn aim_conflicts(history: &History, aim: &[OpId], b: &Op) -> bool
     requires { IsInRange b.now }
-    ensures { IsTrue result ↔ AimMeets history.now.ops aim.now b.now }
+    ensures { IsTrue result ↔ AimConflicts history.now.ops aim.now b.now }
 {
     for id in aim {
-        if member_meets(history, *id, b) {
+        if member_conflicts(history, *id, b) {
             return true;
         }
     }
@@ -60,14 +60,14 @@ fn aim_meets(history: &History, aim: &[OpId], b: &Op) -> bool
 }
 
 /// Whether the operation under this id conflicts directly with `b`, or with one that `b` aims at.
-fn member_meets(history: &History, id: OpId, b: &Op) -> bool
+fn member_conflicts(history: &History, id: OpId, b: &Op) -> bool
     requires { IsInRange b.now }
-    ensures { IsTrue result ↔ MemberMeets history.now.ops id b.now }
+    ensures { IsTrue result ↔ MemberConflicts history.now.ops id b.now }
 {
     // The clause of `ops` says that the history is valid.
     let _ = history.ops();
     match history.get(id) {
-        Some(member) => meets_brought(history, member, b),
+        Some(member) => conflicts_with_brought(history, member, b),
         None => false,
     }
 }

@@ -8,7 +8,7 @@ ghost use Rattle.gf_ops.specs.declared.op.OpId.{OpId};
 ghost use Rattle.gf_ops.specs.declared.op.ObjectId.{ObjectId};
 ghost use Rattle.gf_ops.specs.Aims.{AimsAt, HasNoAims};
 ghost use Rattle.gf_ops.specs.Attribute.{aim_of};
-ghost use Rattle.gf_ops.specs.Conflict.{Conflict, MeetsBrought, ConflictsByAim};
+ghost use Rattle.gf_ops.specs.Conflict.{Conflict, ConflictsWithBrought, ConflictsByAim};
 ghost use Rattle.gf_ops.specs.OperationOrder.{Precedes};
 ghost use Rattle.gf_ops.specs.Version.{IsVersion, IsMember, IsLargestGroup};
 ghost use Rattle.gf_ops.specs.ValidHistory.{IsValid};
@@ -42,8 +42,8 @@ pub fn conflicts_come_from_aims()
     ensures carried { (h : List Op) → IsValid h → (a x b : Op) → Contains h a → AimsAt h a x
         → Conflict h x b → Conflict h a b }
     ensures parted { (h : List Op) (a b : Op) → Conflict h a b
-        → MeetsBrought h a b ⊎ ConflictsByAim h a b }
-    ensures direct { (h : List Op) (a b : Op) → MeetsBrought h a b → Conflict h a b }
+        → ConflictsWithBrought h a b ⊎ ConflictsByAim h a b }
+    ensures direct { (h : List Op) (a b : Op) → ConflictsWithBrought h a b → Conflict h a b }
 {}
 
 /// A version holds the aims of its members.

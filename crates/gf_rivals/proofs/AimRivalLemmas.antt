@@ -1,4 +1,4 @@
--- The rivals of an operation with an aim: what it or its aim meets, and what aims at one of these,
+-- The rivals of an operation with an aim: what conflicts with it or its aim, and what aims at one,
 -- are its conflicts.
 use Rattle.std.proofs.Common.{◌≡◌, ℕ, List, length, inl, inr, refl, subst, sym, ap, ◌∙◌}
 use Rattle.std.specs.Prelude.{◌⊎◌, ◌↔◌, Contains, Option, Some, None, slice_get}
@@ -22,11 +22,11 @@ use Rattle.gf_ops.specs.ValidHistory.{IsValid}
 use Rattle.gf_ops.proofs.DirectConflictLemmas.{direct-sym}
 use Rattle.gf_base.proofs.ListLemmas.{not_Contains-nil}
 use Rattle.gf_ops.proofs.ValidityLemmas.{same_op}
-use Rattle.gf_rivals.specs.declared.chain.Setter.{Setter}
+use Rattle.gf_rivals.specs.declared.log.Setter.{Setter}
 use Rattle.gf_rivals.specs.Aimed.{AimedState, AimsAtOne, AreAimed, AreNumbersOf, ConflictDirectly}
-use Rattle.gf_rivals.specs.Aimed.{ConflictsWithOne, IsConflict, IsMet, op_at}
-use Rattle.gf_rivals.specs.Chains.{position_of}
-use Rattle.gf_rivals.specs.Rivals.{IsDirect, IsNumber, AreChainsOf}
+use Rattle.gf_rivals.specs.Aimed.{ConflictsWithOne, IsConflict, IsRivalOfBrought, op_at}
+use Rattle.gf_rivals.specs.Logs.{position_of}
+use Rattle.gf_rivals.specs.Rivals.{IsDirect, IsNumber, AreLogsOf}
 use Rattle.gf_rivals.proofs.NumberLemmas.{some_one, contained_at, number_from, one_position}
 use Rattle.gf_rivals.proofs.NumberLemmas.{position_is}
 
@@ -68,7 +68,7 @@ there_at : (h : List Op) (r : Option ℕ) (x : Op) → op_at h r ≡ Some x
 there_at h (Some q) x e = (q, refl, e)
 there_at h None x e = absurd cc
 
-module _ (h : List Op) (o : ObjectId) (cs : List (List Setter)) (chains : AreChainsOf h o cs)
+module _ (h : List Op) (o : ObjectId) (ls : List (List Setter)) (logs : AreLogsOf h o ls)
     (valid : IsValid h) (a : Op) (accepted : IsAccepted h a) (v : Value) {aim : List OpId}
     (change : a.change ≡ Set o v aim) where
   -- what the operation brings is on the object, and suited
@@ -96,23 +96,23 @@ module _ (h : List Op) (o : ObjectId) (cs : List (List Setter)) (chains : AreCha
 
   -- the number of a setter of the object
   number_at : (x : Op) → Contains h x → (w : Value) (t : List OpId) → x.change ≡ Set o w t
-      → (n : ℕ) × (q : ℕ) × IsNumber cs n q × (slice_get h q ≡ Some x)
-  number_at x c w t e = let p = position_in_history h x c in let k = chains.all p.0 x w t p.1 e in
+      → (n : ℕ) × (q : ℕ) × IsNumber ls n q × (slice_get h q ≡ Some x)
+  number_at x c w t e = let p = position_in_history h x c in let k = logs.all p.0 x w t p.1 e in
       (k.0, p.0, k.1, p.1)
 
   -- what stands at a number's position is one operation
-  one_op : (n q r : ℕ) (x y : Op) → IsNumber cs n q → IsNumber cs n r → slice_get h q ≡ Some x
+  one_op : (n q r : ℕ) (x y : Op) → IsNumber ls n q → IsNumber ls n r → slice_get h q ≡ Some x
       → slice_get h r ≡ Some y → x ≡ y
   one_op n q r x y k m e f = some_one x y
-      (sym e ∙ (ap (slice_get h) (one_position h o cs chains n q r k m) ∙ f))
+      (sym e ∙ (ap (slice_get h) (one_position h o ls logs n q r k m) ∙ f))
 
-  -- WHAT IT AND ITS AIM MEET, where by_aim is what its aim meets
+  -- ---- what conflicts with it and its aim; by_aim are those that conflict with its aim
   module _ (own us r : List ℕ) (by_aim : ℕ → Type 0) (own_are : (n : ℕ)
-      → Contains own n ↔ IsDirect h cs a n) (us_are : AreNumbersOf h cs (aim_of a) us)
-      (from : (n : ℕ) → by_aim n → ConflictsWithOne h cs us n) (to : (m n : ℕ) → Contains us m
-      → ConflictDirectly h cs m n → by_aim n)
+      → Contains own n ↔ IsDirect h ls a n) (us_are : AreNumbersOf h ls (aim_of a) us)
+      (from : (n : ℕ) → by_aim n → ConflictsWithOne h ls us n) (to : (m n : ℕ) → Contains us m
+      → ConflictDirectly h ls m n → by_aim n)
       (r_are : (n : ℕ) → Contains r n ↔ (Contains own n ⊎ by_aim n)) where
-    pub aim_met : (n : ℕ) → Contains r n ↔ IsMet h cs a n
+    pub aim_met : (n : ℕ) → Contains r n ↔ IsRivalOfBrought h ls a n
     aim_met n = (
       λ i. elim ((r_are n).0 i) [
         | inl j ↦ record { first = a; brings = inl refl; direct = (own_are n).0 j }
@@ -120,10 +120,10 @@ module _ (h : List Op) (o : ObjectId) (cs : List (List Setter)) (chains : AreCha
             let w = from n j in
             let c = w.conflict in
             let m = (us_are w.one).0 w.among in
-            let x = there_at h (position_of cs w.one) c.first c.at_first in
-            let y = there_at h (position_of cs n) c.second c.at_second in
+            let x = there_at h (position_of ls w.one) c.first c.at_first in
+            let y = there_at h (position_of ls n) c.second c.at_second in
             let same : m.op ≡ c.first = one_op w.one m.position x.0 m.op c.first m.number
-            (number_from h o cs chains w.one x.0 x.1) m.at x.2 in
+            (number_from h o ls logs w.one x.0 x.1) m.at x.2 in
             record {
               first = c.first;
               brings = inr (record {
@@ -133,7 +133,7 @@ module _ (h : List Op) (o : ObjectId) (cs : List (List Setter)) (chains : AreCha
               direct = record {
                 position = y.0;
                 op = c.second;
-                number = number_from h o cs chains n y.0 y.1;
+                number = number_from h o ls logs n y.0 y.1;
                 at = y.2;
                 direct = c.direct;
               };
@@ -160,8 +160,8 @@ module _ (h : List Op) (o : ObjectId) (cs : List (List Setter)) (chains : AreCha
             inr (to p.0 n among (record {
               first = w.first;
               second = d.op;
-              at_first = ap (op_at h) (position_is h o cs chains p.0 p.1 p.2) ∙ p.3;
-              at_second = ap (op_at h) (position_is h o cs chains n d.position d.number) ∙ d.at;
+              at_first = ap (op_at h) (position_is h o ls logs p.0 p.1 p.2) ∙ p.3;
+              at_second = ap (op_at h) (position_is h o ls logs n d.position d.number) ∙ d.at;
               direct = d.direct;
             }))
       ]),
@@ -181,10 +181,10 @@ module _ (h : List Op) (o : ObjectId) (cs : List (List Setter)) (chains : AreCha
       c.first.change refl start f
 
   -- THE CONFLICTS OF THE OPERATION
-  module _ (es : List AimedState) (aimed : AreAimed h cs es) (r d : List ℕ) (met : (n : ℕ)
-      → Contains r n ↔ IsMet h cs a n) (found : (n : ℕ)
+  module _ (es : List AimedState) (aimed : AreAimed h ls es) (r d : List ℕ) (met : (n : ℕ)
+      → Contains r n ↔ IsRivalOfBrought h ls a n) (found : (n : ℕ)
       → Contains d n ↔ (Contains r n ⊎ AimsAtOne es r n)) where
-    met_conflicts : (n : ℕ) → IsMet h cs a n → IsConflict h cs a n
+    met_conflicts : (n : ℕ) → IsRivalOfBrought h ls a n → IsConflict h ls a n
     met_conflicts n w = record {
       position = w.direct.position;
       op = w.direct.op;
@@ -199,7 +199,7 @@ module _ (h : List Op) (o : ObjectId) (cs : List (List Setter)) (chains : AreCha
       };
     }
 
-    aiming_conflicts : (n : ℕ) → AimsAtOne es r n → IsConflict h cs a n
+    aiming_conflicts : (n : ℕ) → AimsAtOne es r n → IsConflict h ls a n
     aiming_conflicts n w =
         let s = aimed.each w.state w.listed in
         let m = meets_one w.state.aim r w.met in
@@ -210,7 +210,7 @@ module _ (h : List Op) (o : ObjectId) (cs : List (List Setter)) (chains : AreCha
         record {
           position = s.position;
           op = s.op;
-          number = subst (λ z. IsNumber cs z s.position) w.number s.number;
+          number = subst (λ z. IsNumber ls z s.position) w.number s.number;
           at = s.at;
           conflict = record {
             first = t.first;
@@ -224,7 +224,7 @@ module _ (h : List Op) (o : ObjectId) (cs : List (List Setter)) (chains : AreCha
           };
         }
 
-    conflict_found : (n : ℕ) → IsConflict h cs a n → Contains r n ⊎ AimsAtOne es r n
+    conflict_found : (n : ℕ) → IsConflict h ls a n → Contains r n ⊎ AimsAtOne es r n
     conflict_found n c = elim c.conflict.brings_second [
       | inl e ↦ inl ((met n).1 (record {
         first = c.conflict.first;
@@ -250,7 +250,7 @@ module _ (h : List Op) (o : ObjectId) (cs : List (List Setter)) (chains : AreCha
           (λ e. not_Contains-nil y.id (subst (λ z. Contains z y.id) e m.aimed)) in
           let s = aimed.each state.state state.listed in
           let same : c.op ≡ s.op = one_op n c.position s.position c.op s.op c.number
-          (subst (λ z. IsNumber cs z s.position) state.number s.number) c.at s.at in
+          (subst (λ z. IsNumber ls z s.position) state.number s.number) c.at s.at in
           let aims = (s.aim p.0).1
           (record {
             position = p.1;
@@ -278,7 +278,7 @@ module _ (h : List Op) (o : ObjectId) (cs : List (List Setter)) (chains : AreCha
           })
     ]
 
-    pub aims_conflict : (n : ℕ) → Contains d n ↔ IsConflict h cs a n
+    pub aims_conflict : (n : ℕ) → Contains d n ↔ IsConflict h ls a n
     aims_conflict n = (
       λ i. elim ((found n).0 i) [
         | inl j ↦ met_conflicts n ((met n).0 j)
@@ -288,11 +288,11 @@ module _ (h : List Op) (o : ObjectId) (cs : List (List Setter)) (chains : AreCha
     )
 
 -- what conflicts are two setters
-pub conflict_numbers : (h : List Op) (o : ObjectId) (cs : List (List Setter)) → AreChainsOf h o cs
-    → (m n : ℕ) → (c : ConflictDirectly h cs m n) →
-    (p : ℕ) × (q : ℕ) × IsNumber cs m p × IsNumber cs n q × (slice_get h p ≡ Some c.first)
+pub conflict_numbers : (h : List Op) (o : ObjectId) (ls : List (List Setter)) → AreLogsOf h o ls
+    → (m n : ℕ) → (c : ConflictDirectly h ls m n) →
+    (p : ℕ) × (q : ℕ) × IsNumber ls m p × IsNumber ls n q × (slice_get h p ≡ Some c.first)
     × (slice_get h q ≡ Some c.second)
-conflict_numbers h o cs chains m n c =
-    let x = there_at h (position_of cs m) c.first c.at_first in
-    let y = there_at h (position_of cs n) c.second c.at_second in
-    (x.0, y.0, number_from h o cs chains m x.0 x.1, number_from h o cs chains n y.0 y.1, x.2, y.2)
+conflict_numbers h o ls logs m n c =
+    let x = there_at h (position_of ls m) c.first c.at_first in
+    let y = there_at h (position_of ls n) c.second c.at_second in
+    (x.0, y.0, number_from h o ls logs m x.0 x.1, number_from h o ls logs n y.0 y.1, x.2, y.2)

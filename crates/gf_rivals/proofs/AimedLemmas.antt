@@ -7,10 +7,10 @@ use Rattle.std.proofs.lemmas.Bool.{cases_lt}
 use Rattle.std.proofs.lemmas.List.{take_all, take_more, get_or_default}
 use Rattle.std.proofs.lemmas.List.Elements.{Contains-append_left, Contains-push}
 use Rattle.std.proofs.lemmas.List.Elements.{Contains-push_cases}
-use Rattle.gf_maximal.specs.Growing.{meets}
+use Rattle.gf_maximal.specs.Growing.{intersects}
 use Rattle.gf_ops.specs.declared.op.Op.{Op}
 use Rattle.gf_ops.specs.declared.op.OpId.{OpId}
-use Rattle.gf_rivals.specs.declared.chain.Setter.{Setter}
+use Rattle.gf_rivals.specs.declared.log.Setter.{Setter}
 use Rattle.gf_rivals.specs.Aimed.{AimedState, AimsAtOne, AreNumbersOf, ConflictDirectly}
 use Rattle.gf_rivals.specs.Aimed.{ConflictsWithOne}
 use Rattle.gf_rivals.specs.Comparing.{AddsIf}
@@ -31,7 +31,7 @@ module _ (us : List ℕ) where
   pub aimed_more : (es : List AimedState) (old new : List ℕ) (i : ℕ) (d : AimedState)
       → i < length es →
       ((n : ℕ) → Contains old n ↔ (Contains us n ⊎ AimsAtOne (take i es) us n))
-      → AddsIf (meets (get_or es i d).aim us ≡ true) (get_or es i d).number old new →
+      → AddsIf (intersects (get_or es i d).aim us ≡ true) (get_or es i d).number old new →
       (n : ℕ) → Contains new n ↔ (Contains us n ⊎ AimsAtOne (take (i + 1) es) us n)
   aimed_more es old new i d l f g n =
       let e = get_or es i d in
@@ -58,7 +58,7 @@ module _ (us : List ℕ) where
                 | inl c ↦ inl ((f n).1 (inr
                     (record { state = a.state; listed = c; number = a.number; met = a.met })))
                 | inr s ↦ inr (
-                  subst (λ (z : AimedState). meets z.aim us ≡ true) (sym s) a.met,
+                  subst (λ (z : AimedState). intersects z.aim us ≡ true) (sym s) a.met,
                   sym a.number ∙ ap (λ (z : AimedState). z.number) (sym s),
                 )
               ]
@@ -73,10 +73,10 @@ module _ (us : List ℕ) where
 
 -- ---- the numbers of an aim
 
-module _ (h : List Op) (cs : List (List Setter)) where
+module _ (h : List Op) (ls : List (List Setter)) where
   pub numbers_more : (ids : List OpId) (old new : List ℕ) (i : ℕ) (d : OpId) → i < length ids
-      → AreNumbersOf h cs (take i ids) old → AddsNamed h cs (get_or ids i d) old new
-      → AreNumbersOf h cs (take (i + 1) ids) new
+      → AreNumbersOf h ls (take i ids) old → AddsNamed h ls (get_or ids i d) old new
+      → AreNumbersOf h ls (take (i + 1) ids) new
   numbers_more ids old new i d l f g m =
       let x = get_or ids i d in
       let more = take_more ids i d l in (
@@ -122,27 +122,27 @@ module _ (h : List Op) (cs : List (List Setter)) where
       )
 
   pub numbers_all : (ids : List OpId) (g : List ℕ) (i : ℕ) → length ids ≤ i
-      → AreNumbersOf h cs (take i ids) g → AreNumbersOf h cs ids g
-  numbers_all ids g i l f = subst (λ z. AreNumbersOf h cs z g) (take_all i ids l) f
+      → AreNumbersOf h ls (take i ids) g → AreNumbersOf h ls ids g
+  numbers_all ids g i l f = subst (λ z. AreNumbersOf h ls z g) (take_all i ids l) f
 
   -- ---- what conflicts with a member
 
   abbrev pub NoneBefore : List ℕ → ℕ → ℕ → Type 0
   NoneBefore ms n k = (j d : ℕ) → j < k → j < length ms
-      → ¬ (ConflictDirectly h cs (slice_index_or ms j d) n)
+      → ¬ (ConflictDirectly h ls (slice_index_or ms j d) n)
 
   pub none_more : (ms : List ℕ) (n k e : ℕ) → k < length ms → NoneBefore ms n k
-      → ¬ (ConflictDirectly h cs (slice_index_or ms k e) n) → NoneBefore ms n (k + 1)
+      → ¬ (ConflictDirectly h ls (slice_index_or ms k e) n) → NoneBefore ms n (k + 1)
   none_more ms n k e l f g j d m b = elim (cases_lt j k) [
     | inl less ↦ f j d less b
     | inr more ↦ let s : j ≡ k = omega arith in
-        subst (λ z. ¬ (ConflictDirectly h cs z n))
+        subst (λ z. ¬ (ConflictDirectly h ls z n))
         (sym (ap (λ i. slice_index_or ms i d) s ∙ get_or_default ms k d e l)) g
   ]
 
   pub none_at_all : (ms : List ℕ) (n k : ℕ) → length ms ≤ k → NoneBefore ms n k
-      → ¬ (ConflictsWithOne h cs ms n)
+      → ¬ (ConflictsWithOne h ls ms n)
   none_at_all ms n k l f c =
       let w = c.among in
       let b = w.1 in
-      f w.0 c.one (omega arith) b (subst (λ z. ConflictDirectly h cs z n) (sym w.2) c.conflict)
+      f w.0 c.one (omega arith) b (subst (λ z. ConflictDirectly h ls z n) (sym w.2) c.conflict)

@@ -14,35 +14,35 @@ use Rattle.gf_ops.specs.Attribute.{aim_of, attribute_of}
 use Rattle.gf_ops.specs.Limits.{IsInRange}
 use Rattle.gf_ops.specs.ValidHistory.{IsValid}
 use Rattle.gf_base.proofs.ListLemmas.{not_Contains-nil}
-use Rattle.gf_rivals.specs.declared.chain.Setter.{Setter}
+use Rattle.gf_rivals.specs.declared.log.Setter.{Setter}
 use Rattle.gf_rivals.specs.Aimed.{AimedState, AreAimed, AreNumbersOf, IsAimedState, IsAmong}
-use Rattle.gf_rivals.specs.Chains.{chain_of, setters, with_setter}
-use Rattle.gf_rivals.specs.Rivals.{IsNumber, AreChainsOf}
-use Rattle.gf_rivals.proofs.SetterIndexLemmas.{chain_number}
+use Rattle.gf_rivals.specs.Logs.{log_of, setters, with_setter}
+use Rattle.gf_rivals.specs.Rivals.{IsNumber, AreLogsOf}
+use Rattle.gf_rivals.proofs.SetterIndexLemmas.{log_number}
 use Rattle.gf_rivals.proofs.LongerLemmas.{get_front, get_within, get_last}
 use Rattle.gf_rivals.proofs.NextLemmas.{fresh}
 use Rattle.gf_rivals.proofs.NumberLemmas.{some_one, contained_at, number_within}
-use Rattle.gf_rivals.proofs.ChainLemmas.{last_number, number_cases, numbered}
+use Rattle.gf_rivals.proofs.LogLemmas.{last_number, number_cases, numbered}
 
 -- no operation aims at any
-pub none_aimed : (h : List Op) (cs : List (List Setter)) → ((n q : ℕ) → ¬ (IsNumber cs n q))
-    → AreAimed h cs []
-none_aimed h cs f = record {
+pub none_aimed : (h : List Op) (ls : List (List Setter)) → ((n q : ℕ) → ¬ (IsNumber ls n q))
+    → AreAimed h ls []
+none_aimed h ls f = record {
   each = λ e i. absurd (not_Contains-nil e i);
   all = λ n q b k at m. absurd (f n q k);
 }
 
-module _ (h : List Op) (o : ObjectId) (cs : List (List Setter)) (chains : AreChainsOf h o cs)
+module _ (h : List Op) (o : ObjectId) (ls : List (List Setter)) (logs : AreLogsOf h o ls)
     (a : Op) where
   abbrev longer : List Op
   longer = h ++ a ∷ []
 
   -- what stands at a number's position stood there
-  stood : (n q : ℕ) (b : Op) → IsNumber cs n q → slice_get longer q ≡ Some b
+  stood : (n q : ℕ) (b : Op) → IsNumber ls n q → slice_get longer q ≡ Some b
       → slice_get h q ≡ Some b
-  stood n q b k at = sym (get_within h a q (number_within h o cs chains n q k)) ∙ at
+  stood n q b k at = sym (get_within h a q (number_within h o ls logs n q k)) ∙ at
 
-  still_among : (ids : List OpId) (m : ℕ) → IsAmong h cs ids m → IsAmong longer cs ids m
+  still_among : (ids : List OpId) (m : ℕ) → IsAmong h ls ids m → IsAmong longer ls ids m
   still_among ids m k = record {
     position = k.position;
     op = k.op;
@@ -51,7 +51,7 @@ module _ (h : List Op) (o : ObjectId) (cs : List (List Setter)) (chains : AreCha
     among = k.among;
   }
 
-  was_among : (ids : List OpId) (m : ℕ) → IsAmong longer cs ids m → IsAmong h cs ids m
+  was_among : (ids : List OpId) (m : ℕ) → IsAmong longer ls ids m → IsAmong h ls ids m
   was_among ids m k = record {
     position = k.position;
     op = k.op;
@@ -61,7 +61,7 @@ module _ (h : List Op) (o : ObjectId) (cs : List (List Setter)) (chains : AreCha
   }
 
   -- ANOTHER OPERATION
-  pub aimed_other : (es : List AimedState) → AreAimed h cs es → AreAimed longer cs es
+  pub aimed_other : (es : List AimedState) → AreAimed h ls es → AreAimed longer ls es
   aimed_other es aimed = record {
     each = λ e i. let s = aimed.each e i in record {
       position = s.position;
@@ -79,12 +79,12 @@ module _ (h : List Op) (o : ObjectId) (cs : List (List Setter)) (chains : AreCha
   module _ (valid : IsValid h) (in_range : IsInRange a) (accepted : IsAccepted h a) (v : Value)
       {aim : List OpId} (change : a.change ≡ Set o v aim) where
     abbrev new : List (List Setter)
-    new = with_setter cs (attribute_of v) (a.id.site - 1)
+    new = with_setter ls (attribute_of v) (a.id.site - 1)
         (record { seq = a.id.seq; position = length h })
 
     abbrev x : ℕ
-    x = chain_number (chain_of (attribute_of v) (a.id.site - 1))
-        (length (setters cs (attribute_of v) (a.id.site - 1)))
+    x = log_number (log_of (attribute_of v) (a.id.site - 1))
+        (length (setters ls (attribute_of v) (a.id.site - 1)))
 
     -- nobody that the history has, and a itself, aims at a
     none_at : (b : Op) → Contains h b ⊎ (b ≡ a) → ¬ (Contains (aim_of b) a.id)
@@ -95,18 +95,18 @@ module _ (h : List Op) (o : ObjectId) (cs : List (List Setter)) (chains : AreCha
           i) in fresh h valid a in_range accepted t.op t.contained t.id
     ]
 
-    more_among : (ids : List OpId) (m : ℕ) → IsAmong h cs ids m → IsAmong longer new ids m
+    more_among : (ids : List OpId) (m : ℕ) → IsAmong h ls ids m → IsAmong longer new ids m
     more_among ids m k = record {
       position = k.position;
       op = k.op;
-      number = numbered h o cs chains a valid in_range accepted v change m k.position k.number;
+      number = numbered h o ls logs a valid in_range accepted v change m k.position k.number;
       at = get_front h a k.position k.op k.at;
       among = k.among;
     }
 
     less_among : (b : Op) → Contains h b ⊎ (b ≡ a) → (m : ℕ) → IsAmong longer new (aim_of b) m
-        → IsAmong h cs (aim_of b) m
-    less_among b w m k = elim (number_cases h o cs chains a valid in_range accepted v change m
+        → IsAmong h ls (aim_of b) m
+    less_among b w m k = elim (number_cases h o ls logs a valid in_range accepted v change m
         k.position k.number) [
           | inl old ↦ record {
             position = k.position;
@@ -122,28 +122,28 @@ module _ (h : List Op) (o : ObjectId) (cs : List (List Setter)) (chains : AreCha
         ]
 
     numbers_longer : (b : Op) → Contains h b ⊎ (b ≡ a) → (us : List ℕ)
-        → AreNumbersOf h cs (aim_of b) us → AreNumbersOf longer new (aim_of b) us
+        → AreNumbersOf h ls (aim_of b) us → AreNumbersOf longer new (aim_of b) us
     numbers_longer b w us f m = (
       λ c. more_among (aim_of b) m ((f m).0 c),
       λ k. (f m).1 (less_among b w m k),
     )
 
-    state_longer : (e : AimedState) → IsAimedState h cs e → IsAimedState longer new e
+    state_longer : (e : AimedState) → IsAimedState h ls e → IsAimedState longer new e
     state_longer e s = record {
       position = s.position;
       op = s.op;
-      number = numbered h o cs chains a valid in_range accepted v change e.number s.position
+      number = numbered h o ls logs a valid in_range accepted v change e.number s.position
           s.number;
       at = get_front h a s.position s.op s.at;
       aim = numbers_longer s.op (inl (contained_at h s.position s.op s.at)) e.aim s.aim;
     }
 
     -- one more setter that aims at none
-    pub aimed_none : (es : List AimedState) → AreAimed h cs es → aim_of a ≡ []
+    pub aimed_none : (es : List AimedState) → AreAimed h ls es → aim_of a ≡ []
         → AreAimed longer new es
     aimed_none es aimed none = record {
       each = λ e i. state_longer e (aimed.each e i);
-      all = λ n q b k at some. elim (number_cases h o cs chains a valid in_range accepted v change n
+      all = λ n q b k at some. elim (number_cases h o ls logs a valid in_range accepted v change n
           q k) [
             | inl old ↦ aimed.all n q b old (stood n q b old at) some
             | inr e ↦
@@ -154,8 +154,8 @@ module _ (h : List Op) (o : ObjectId) (cs : List (List Setter)) (chains : AreCha
     }
 
     -- ONE MORE SETTER that aims at the numbers us
-    pub aimed_more : (es : List AimedState) (us : List ℕ) → AreAimed h cs es
-        → AreNumbersOf h cs (aim_of a) us
+    pub aimed_more : (es : List AimedState) (us : List ℕ) → AreAimed h ls es
+        → AreNumbersOf h ls (aim_of a) us
         → AreAimed longer new (es ++ record { number = x; aim = us } ∷ [])
     aimed_more es us aimed are = record {
       each = λ e i. elim (Contains-push_cases es last e i) [
@@ -163,12 +163,12 @@ module _ (h : List Op) (o : ObjectId) (cs : List (List Setter)) (chains : AreCha
         | inr d ↦ subst (IsAimedState longer new) d (record {
           position = length h;
           op = a;
-          number = last_number h o cs chains a valid in_range accepted v change;
+          number = last_number h o ls logs a valid in_range accepted v change;
           at = get_last h a;
           aim = numbers_longer a (inr refl) us are;
         })
       ];
-      all = λ n q b k at some. elim (number_cases h o cs chains a valid in_range accepted v change n
+      all = λ n q b k at some. elim (number_cases h o ls logs a valid in_range accepted v change n
           q k) [
             | inl old ↦
                 let s = aimed.all n q b old (stood n q b old at) some in

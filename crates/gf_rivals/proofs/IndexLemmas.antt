@@ -1,4 +1,4 @@
--- An index has exactly the setters of the chains, as it is made and as the history becomes longer.
+-- An index has exactly the setters of the logs, as it is made and as the history becomes longer.
 use Rattle.std.proofs.Common.{◌≡◌, ℕ, ◌<◌, ◌+◌, true, List, [], length, get_or, inl, inr, refl}
 use Rattle.std.proofs.Common.{subst, sym, ap, ◌∙◌, arith}
 use Rattle.std.specs.Prelude.{◌⊎◌, ◌↔◌, Contains, Option, Some, None, slice_get, unwrap_or}
@@ -11,16 +11,16 @@ use Rattle.std.proofs.lemmas.Cmp.{nat_cmp_total}
 use Rattle.gf_maximal.specs.Growing.{joined}
 use Rattle.gf_maximal.proofs.InsertLemmas.{holds}
 use Rattle.gf_ops.specs.declared.op.Op.{Op}
-use Rattle.gf_rivals.specs.declared.chain.Setter.{Setter}
+use Rattle.gf_rivals.specs.declared.log.Setter.{Setter}
 use Rattle.gf_rivals.specs.declared.fingerprint.Fingerprint.{Fingerprint}
 use Rattle.gf_rivals.specs.Fingerprints.{fingerprint_cmp}
 use Rattle.gf_rivals.specs.Giving.{op_value, fingerprint_given}
 use Rattle.gf_rivals.specs.Rivals.{IsNumber}
-use Rattle.gf_rivals.specs.Chains.{chain_of}
+use Rattle.gf_rivals.specs.Logs.{log_of}
 use Rattle.gf_rivals.specs.Indexes.{Entries, numbers_at, IsIndex, PutsNumber}
-use Rattle.gf_rivals.specs.Indexing.{PutsGiven, IsListed, Lists, IsListedBelow, ListsChain}
+use Rattle.gf_rivals.specs.Indexing.{PutsGiven, IsListed, Lists, IsListedBelow, ListsLog}
 use Rattle.gf_rivals.proofs.FingerprintLemmas.{at_itself, at_same}
-use Rattle.gf_rivals.proofs.SetterIndexLemmas.{chain_number}
+use Rattle.gf_rivals.proofs.SetterIndexLemmas.{log_number}
 use Rattle.gf_rivals.proofs.SetterLemmas.{at_index}
 use Rattle.gf_rivals.proofs.NumberLemmas.{some_one, got_at, attribute_index_below, number_in}
 
@@ -60,12 +60,12 @@ Contains-numbers_at old new p x f q n = elim (cases_Bool (is_at (fingerprint_cmp
       )
 ]
 
--- ---- chain by chain
+-- ---- log by log
 
 listed_more : (h : List Op) (ss : List Setter) (b m : ℕ) (e : Setter) (old mid new : Entries)
     → slice_get ss m ≡ Some e →
     Lists h ss b m old mid → PutsGiven mid (fingerprint_given (op_value (slice_get h e.position)))
-    (chain_number b m) new → Lists h ss b (m + 1) old new
+    (log_number b m) new → Lists h ss b (m + 1) old new
 listed_more h ss b m e old mid new there f g p n = by_given
     (fingerprint_given (op_value (slice_get h e.position))) refl g
   where
@@ -82,7 +82,7 @@ listed_more h ss b m e old mid new there f g p n = by_given
     -- of the setter at the new index m
     last : (i : IsListed h ss b (m + 1) p n)
         → IsListed h ss b m p n ⊎ ((fingerprint_given (op_value (slice_get h e.position)) ≡ Some p)
-        × (n ≡ chain_number b m))
+        × (n ≡ log_number b m))
     last i = elim (cases_lt i.index m) [
       | inl w ↦ inl (record {
         index = i.index;
@@ -100,12 +100,12 @@ listed_more h ss b m e old mid new there f g p n = by_given
           inr (
             ap (λ (z : Setter). fingerprint_given (op_value (slice_get h z.position))) (sym one)
                 ∙ i.given,
-            i.number ∙ ap (chain_number b) same,
+            i.number ∙ ap (log_number b) same,
           )
     ]
 
     by_given : (r : Option Fingerprint) → fingerprint_given (op_value (slice_get h e.position)) ≡ r
-        → PutsGiven mid r (chain_number b m) new
+        → PutsGiven mid r (log_number b m) new
         → Contains (numbers_at new p) n ↔ (Contains (numbers_at old p) n ⊎ IsListed h ss b (m + 1) p
         n)
     by_given None none put = (
@@ -120,7 +120,7 @@ listed_more h ss b m e old mid new there f g p n = by_given
       ]),
     )
     by_given (Some q) some put =
-        let w = Contains-numbers_at mid new q (chain_number b m) put p n in (
+        let w = Contains-numbers_at mid new q (log_number b m) put p n in (
           λ i. elim (w.0 i) [
             | inl j ↦ elim ((f p n).0 j) [ inl k ↦ inl k | inr k ↦ inr (one_up k) ]
             | inr j ↦ inr (record {
@@ -146,7 +146,7 @@ pub lists_more : (h : List Op) (ss : List Setter) (b m x : ℕ) (d : Setter)
     → m < length ss →
     Lists h ss b m old mid → PutsGiven mid
     (fingerprint_given (op_value (slice_get h (get_or ss m d).position))) x new
-    → x ≡ chain_number b m → Lists h ss b (m + 1) old new
+    → x ≡ log_number b m → Lists h ss b (m + 1) old new
 lists_more h ss b m x d old mid new l f g e = listed_more h ss b m (get_or ss m d) old mid new
     (at_index ss m d l) f (subst (λ z. PutsGiven mid
     (fingerprint_given (op_value (slice_get h (get_or ss m d).position))) z new) e g)
@@ -155,16 +155,16 @@ pub lists_all : (h : List Op) (ss : List Setter) (b m : ℕ) (old new : Entries)
     → Lists h ss b m old new → Lists h ss b (length ss) old new
 lists_all h ss b m old new e f = subst (λ z. Lists h ss b z old new) e f
 
--- ---- all chains
+-- ---- all logs
 
-pub below_more : (h : List Op) (cs : List (List Setter)) (k : ℕ) (old new : Entries)
-    → ((p : Fingerprint) (n : ℕ) → Contains (numbers_at old p) n ↔ IsListedBelow h cs k p n)
-    → ListsChain h cs k old new →
-    (p : Fingerprint) (n : ℕ) → Contains (numbers_at new p) n ↔ IsListedBelow h cs (k + 1) p n
-below_more h cs k old new f g p n = (
+pub below_more : (h : List Op) (ls : List (List Setter)) (k : ℕ) (old new : Entries)
+    → ((p : Fingerprint) (n : ℕ) → Contains (numbers_at old p) n ↔ IsListedBelow h ls k p n)
+    → ListsLog h ls k old new →
+    (p : Fingerprint) (n : ℕ) → Contains (numbers_at new p) n ↔ IsListedBelow h ls (k + 1) p n
+below_more h ls k old new f g p n = (
   λ i. elim ((g p n).0 i) [
     | inl j ↦ let w = (f p n).0 j in record {
-      chain = w.chain;
+      log = w.log;
       below = let l = w.below in omega (arith, l);
       index = w.index;
       setter = w.setter;
@@ -173,7 +173,7 @@ below_more h cs k old new f g p n = (
       number = w.number;
     }
     | inr j ↦ record {
-      chain = k;
+      log = k;
       below = omega arith;
       index = j.index;
       setter = j.setter;
@@ -182,10 +182,10 @@ below_more h cs k old new f g p n = (
       number = j.number;
     }
   ],
-  λ i. (g p n).1 (elim (cases_lt i.chain k) [
+  λ i. (g p n).1 (elim (cases_lt i.log k) [
     | inl l ↦ inl ((f p n).1
         (record {
-          chain = i.chain;
+          log = i.log;
           below = l;
           index = i.index;
           setter = i.setter;
@@ -195,31 +195,31 @@ below_more h cs k old new f g p n = (
         }))
     | inr l ↦
         let m = i.below in
-        let same : i.chain ≡ k = omega (arith, l, m) in
-        let at : slice_get (get_or cs k []) i.index ≡ Some i.setter = subst
-        (λ z. slice_get (get_or cs z []) i.index ≡ Some i.setter) same i.at in
+        let same : i.log ≡ k = omega (arith, l, m) in
+        let at : slice_get (get_or ls k []) i.index ≡ Some i.setter = subst
+        (λ z. slice_get (get_or ls z []) i.index ≡ Some i.setter) same i.at in
         inr (record {
           index = i.index;
-          within = (got_at (get_or cs k []) i.index i.setter at).0;
+          within = (got_at (get_or ls k []) i.index i.setter at).0;
           setter = i.setter;
           at = at;
           given = i.given;
-          number = i.number ∙ ap (λ z. chain_number z i.index) same;
+          number = i.number ∙ ap (λ z. log_number z i.index) same;
         })
   ]),
 )
 
-pub index_made : (h : List Op) (cs : List (List Setter)) (k : ℕ) (ix : Entries) → k ≡ 48
-    → ((p : Fingerprint) (n : ℕ) → Contains (numbers_at ix p) n ↔ IsListedBelow h cs k p n)
-    → IsIndex h cs ix
-index_made h cs k ix e f p n = (
+pub index_made : (h : List Op) (ls : List (List Setter)) (k : ℕ) (ix : Entries) → k ≡ 48
+    → ((p : Fingerprint) (n : ℕ) → Contains (numbers_at ix p) n ↔ IsListedBelow h ls k p n)
+    → IsIndex h ls ix
+index_made h ls k ix e f p n = (
   λ i.
       let w = (f p n).0 i in
       let l = w.below in
       record {
         position = w.setter.position;
-        number = subst (λ z. IsNumber cs z w.setter.position) (sym w.number)
-            (number_in cs w.chain w.index w.setter (omega (arith, l, e)) w.at);
+        number = subst (λ z. IsNumber ls z w.setter.position) (sym w.number)
+            (number_in ls w.log w.index w.setter (omega (arith, l, e)) w.at);
         given = w.given;
       },
   λ i.
@@ -227,7 +227,7 @@ index_made h cs k ix e f p n = (
       let r = attribute_index_below k.attribute in
       let l = k.within in
       (f p n).1 (record {
-        chain = chain_of k.attribute k.site;
+        log = log_of k.attribute k.site;
         below = omega (arith, r, l, e);
         index = k.index;
         setter = k.setter;

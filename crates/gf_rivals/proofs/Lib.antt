@@ -4,7 +4,7 @@ pub mod SetterLemmas
 pub mod NumberLemmas
 pub mod RivalLemmas
 pub mod LongerLemmas
-pub mod ChainLemmas
+pub mod LogLemmas
 pub mod KeptLemmas
 pub mod CountedLemmas
 pub mod FingerprintLemmas

@@ -2,7 +2,7 @@
 use Rattle.std.proofs.Common.{◌≡◌, ◌≢◌, ℕ, zero, suc, ◌<◌, List, [], ◌∷◌, ◌++◌, length, get_or, set}
 use Rattle.std.proofs.Common.{inl, inr, refl, arith}
 use Rattle.std.specs.Prelude.{◌⊎◌, Some, slice_get}
-use Rattle.gf_rivals.specs.declared.chain.Setter.{Setter}
+use Rattle.gf_rivals.specs.declared.log.Setter.{Setter}
 use Rattle.gf_rivals.proofs.NumberLemmas.{some_one}
 
 pub get_front : {X : Type 0} (xs : List X) (y : X) (i : ℕ) (x : X) → slice_get xs i ≡ Some x
@@ -31,22 +31,22 @@ get_cases (z ∷ xs) y (suc i) x e = elim (get_cases xs y i x e) [
   | inr b ↦ inr (let k = b.0 in omega arith, b.1)
 ]
 
-pub set_here : (cs : List (List Setter)) (k : ℕ) (x d : List Setter) → k < length cs
-    → get_or (set cs k x) k d ≡ x
+pub set_here : (ls : List (List Setter)) (k : ℕ) (x d : List Setter) → k < length ls
+    → get_or (set ls k x) k d ≡ x
 set_here [] k x d l = absurd (omega arith)
-set_here (c ∷ cs) zero x d l = refl
-set_here (c ∷ cs) (suc k) x d l = set_here cs k x d (omega arith)
+set_here (c ∷ ls) zero x d l = refl
+set_here (c ∷ ls) (suc k) x d l = set_here ls k x d (omega arith)
 
-pub set_else : (cs : List (List Setter)) (k j : ℕ) (x d : List Setter) → j ≢ k
-    → get_or (set cs k x) j d ≡ get_or cs j d
+pub set_else : (ls : List (List Setter)) (k j : ℕ) (x d : List Setter) → j ≢ k
+    → get_or (set ls k x) j d ≡ get_or ls j d
 set_else [] k j x d n = refl
-set_else (c ∷ cs) zero zero x d n = absurd (n refl)
-set_else (c ∷ cs) zero (suc j) x d n = refl
-set_else (c ∷ cs) (suc k) zero x d n = refl
-set_else (c ∷ cs) (suc k) (suc j) x d n = set_else cs k j x d (λ e. n (omega (arith, e)))
+set_else (c ∷ ls) zero zero x d n = absurd (n refl)
+set_else (c ∷ ls) zero (suc j) x d n = refl
+set_else (c ∷ ls) (suc k) zero x d n = refl
+set_else (c ∷ ls) (suc k) (suc j) x d n = set_else ls k j x d (λ e. n (omega (arith, e)))
 
-pub set_back : (cs : List (List Setter)) (k : ℕ) (x : List Setter)
-    → set (set cs k x) k (get_or cs k []) ≡ cs
+pub set_back : (ls : List (List Setter)) (k : ℕ) (x : List Setter)
+    → set (set ls k x) k (get_or ls k []) ≡ ls
 set_back [] k x = refl
-set_back (c ∷ cs) zero x = refl
-set_back (c ∷ cs) (suc k) x = let r = set_back cs k x in λ i. c ∷ r i
+set_back (c ∷ ls) zero x = refl
+set_back (c ∷ ls) (suc k) x = let r = set_back ls k x in λ i. c ∷ r i

@@ -1,4 +1,4 @@
--- The members of an aim by their chains, and which of them conflict with a setter.
+-- The members of an aim by their logs, and which of them conflict with a setter.
 use Rattle.std.proofs.Common.{◌≡◌, ◌≢◌, ℕ, zero, suc, ◌-◌, Bool, true, false, not, ◌<◌, ◌≤◌, ◌+◌}
 use Rattle.std.proofs.Common.{List, [], ◌∷◌, ◌++◌, length, inl, inr, refl, subst, sym, ap}
 use Rattle.std.proofs.Common.{◌∙◌, arith}
@@ -31,16 +31,16 @@ use Rattle.gf_ops.proofs.SameLemmas.{value_eq-same, value_eq-true}
 use Rattle.gf_base.proofs.ListLemmas.{Contains-cons_cases, Contains-cons_head, Contains-cons_tail}
 use Rattle.gf_base.proofs.ListLemmas.{not_Contains-nil}
 use Rattle.gf_ops.proofs.ValidityLemmas.{pasts_grow}
-use Rattle.gf_rivals.specs.declared.chain.Setter.{Setter}
+use Rattle.gf_rivals.specs.declared.log.Setter.{Setter}
 use Rattle.gf_rivals.specs.declared.members.Member.{Member}
 use Rattle.gf_rivals.specs.Aimed.{ConflictDirectly, ConflictsWithOne, op_at, op_of}
-use Rattle.gf_rivals.specs.Chains.{chain_of, position_of, setters}
+use Rattle.gf_rivals.specs.Logs.{log_of, position_of, setters}
 use Rattle.gf_rivals.specs.Comparing.{is_value, number_gives, value_at}
 use Rattle.gf_rivals.specs.Giving.{op_value, value_set}
 use Rattle.gf_rivals.specs.Members.{AreFalling, AreMembers, AreMembersOf, CanConflict}
 use Rattle.gf_rivals.specs.Members.{IsFirstUnknown}
-use Rattle.gf_rivals.specs.Members.{PointsToOther, IsOfChain, IsOther, OneChain, value_of}
-use Rattle.gf_rivals.specs.Rivals.{IsNumber, AreChainsOf}
+use Rattle.gf_rivals.specs.Members.{PointsToOther, IsOfLog, IsOther, OneLog, value_of}
+use Rattle.gf_rivals.specs.Rivals.{IsNumber, AreLogsOf}
 use Rattle.gf_rivals.specs.SetterIndexes.{setter_of}
 use Rattle.gf_rivals.specs.declared.setter_index.SetterIndex.{SetterIndex}
 use Rattle.gf_rivals.specs.Setters.{IsCountUpTo}
@@ -48,34 +48,34 @@ use Rattle.gf_rivals.proofs.AimRivalLemmas.{conflict_numbers}
 use Rattle.gf_rivals.proofs.NumberLemmas.{some_one, contained_at, got_at, index_short, position_is}
 use Rattle.gf_rivals.proofs.NumberLemmas.{one_attribute}
 use Rattle.gf_rivals.proofs.RivalLemmas.{given_is, own_value}
-use Rattle.gf_rivals.proofs.SetterIndexLemmas.{chain_number, setter_of-chain_number}
+use Rattle.gf_rivals.proofs.SetterIndexLemmas.{log_number, setter_of-log_number}
 
--- a number of the chain of t and the site s + 1
-pub record Stands (h : List Op) (o : ObjectId) (cs : List (List Setter)) (t : Attr) (s n : ℕ) : Type
+-- a number of the log of t and the site s + 1
+pub record Stands (h : List Op) (o : ObjectId) (ls : List (List Setter)) (t : Attr) (s n : ℕ) : Type
     0 where
   pub index : ℕ
   pub setter : Setter
-  pub at : slice_get (setters cs t s) index ≡ Some setter
-  pub number : n ≡ chain_number (chain_of t s) index
+  pub at : slice_get (setters ls t s) index ≡ Some setter
+  pub number : n ≡ log_number (log_of t s) index
   pub op : Op
   pub stands : slice_get h setter.position ≡ Some op
-  pub found : op_of h cs n ≡ Some op
+  pub found : op_of h ls n ≡ Some op
   pub site : op.id.site ≡ s + 1
   pub seq : op.id.seq ≡ setter.seq
   pub value : Value
   pub aim : List OpId
   pub change : op.change ≡ Set o value aim
   pub attribute : attribute_of value ≡ t
-  pub gives : value_of h cs n ≡ Some value
+  pub gives : value_of h ls n ≡ Some value
 
-module _ (h : List Op) (o : ObjectId) (cs : List (List Setter)) (chains : AreChainsOf h o cs) where
-  -- a setter stands in its chain
-  pub stands : (n q : ℕ) → (k : IsNumber cs n q) → Stands h o cs k.attribute k.site n
+module _ (h : List Op) (o : ObjectId) (ls : List (List Setter)) (logs : AreLogsOf h o ls) where
+  -- a setter stands in its log
+  pub stands : (n q : ℕ) → (k : IsNumber ls n q) → Stands h o ls k.attribute k.site n
   stands n q k =
-      let is = chains.each k.attribute k.site k.index k.setter k.within k.at in
+      let is = logs.each k.attribute k.site k.index k.setter k.within k.at in
       let here : slice_get h q ≡ Some is.op = subst (λ z. slice_get h z ≡ Some is.op) k.position
       is.at in
-      let found : op_of h cs n ≡ Some is.op = ap (op_at h) (position_is h o cs chains n q k)
+      let found : op_of h ls n ≡ Some is.op = ap (op_at h) (position_is h o ls logs n q k)
       ∙ here in
       record {
         index = k.index;
@@ -94,52 +94,52 @@ module _ (h : List Op) (o : ObjectId) (cs : List (List Setter)) (chains : AreCha
         gives = ap op_value found ∙ ap value_set is.change;
       }
 
-  -- and the number determines that chain
-  pub in_chain : (n q : ℕ) → (k : IsNumber cs n q) → (t : Attr) (s : ℕ) → s < 8
-      → (setter_of n).chain ≡ chain_of t s → Stands h o cs t s n
-  in_chain n q k t s l e =
-      let p = index_short h o cs chains k.attribute k.site k.index k.setter k.within k.at in
+  -- and the number determines that log
+  pub in_log : (n q : ℕ) → (k : IsNumber ls n q) → (t : Attr) (s : ℕ) → s < 8
+      → (setter_of n).log ≡ log_of t s → Stands h o ls t s n
+  in_log n q k t s l e =
+      let p = index_short h o ls logs k.attribute k.site k.index k.setter k.within k.at in
       let m = k.number in
       let w = k.within in
-      let one : chain_of k.attribute k.site ≡ chain_of t s = omega (arith, p, m, e) in
+      let one : log_of k.attribute k.site ≡ log_of t s = omega (arith, p, m, e) in
       let site : k.site ≡ s = omega (arith, one, l, w) in
       let same : k.attribute ≡ t = one_attribute k.attribute t (omega (arith, one, l, w)) in
-      subst (λ z. Stands h o cs t z n) site
-      (subst (λ z. Stands h o cs z k.site n) same (stands n q k))
+      subst (λ z. Stands h o ls t z n) site
+      (subst (λ z. Stands h o ls z k.site n) same (stands n q k))
 
-  -- what stands earlier in a chain has a smaller number at its site
-  in_order : (t : Attr) (s m n : ℕ) → s < 8 → (a : Stands h o cs t s m) → (b : Stands h o cs t s n)
+  -- what stands earlier in a log has a smaller number at its site
+  in_order : (t : Attr) (s m n : ℕ) → s < 8 → (a : Stands h o ls t s m) → (b : Stands h o ls t s n)
       → m ≤ n → a.op.id.seq ≤ b.op.id.seq
   in_order t s m n l a b u =
       let x = a.number in let y = b.number in
-      let v = got_at (setters cs t s) a.index a.setter a.at in
-      let w = got_at (setters cs t s) b.index b.setter b.at in
+      let v = got_at (setters ls t s) a.index a.setter a.at in
+      let w = got_at (setters ls t s) b.index b.setter b.at in
       let p = a.seq in let q = b.seq in
       elim (cases_lt a.index b.index) [
         | inl k ↦
-            let r = (chains.ordered t s l).rise a.index b.index a.setter k w.0 in
-            let f = subst (λ (z : Setter). z.seq < (slice_index_or (setters cs t s) b.index
+            let r = (logs.ordered t s l).rise a.index b.index a.setter k w.0 in
+            let f = subst (λ (z : Setter). z.seq < (slice_index_or (setters ls t s) b.index
             a.setter).seq) v.1 r in
             let g = subst (λ (z : Setter). a.setter.seq < z.seq)
-            (get_or_default (setters cs t s) b.index a.setter b.setter w.0 ∙ w.1) f in
+            (get_or_default (setters ls t s) b.index a.setter b.setter w.0 ∙ w.1) f in
             omega (arith, p, q, g)
         | inr k ↦
             let same : a.index ≡ b.index = omega (arith, x, y, u, k) in
             let e : a.setter ≡ b.setter = some_one a.setter b.setter
-            (sym a.at ∙ (ap (slice_get (setters cs t s)) same ∙ b.at)) in
+            (sym a.at ∙ (ap (slice_get (setters ls t s)) same ∙ b.at)) in
             let f : a.setter.seq ≡ b.setter.seq = ap (λ (z : Setter). z.seq) e in
             omega (arith, p, q, f)
       ]
 
   module _ (valid : IsValid h) where
-    same_second : (n q : ℕ) (c : Op) → op_of h cs n ≡ Some c → (b : Op) → op_of h cs n ≡ Some b
+    same_second : (n q : ℕ) (c : Op) → op_of h ls n ≡ Some c → (b : Op) → op_of h ls n ≡ Some b
         → c ≡ b
     same_second n q c e b f = some_one c b (sym e ∙ f)
 
     -- what conflicts gives another value of the attribute
-    pub conflict_values : (y n : ℕ) (t u : Attr) (s r : ℕ) → (a : Stands h o cs t s y)
-        → (b : Stands h o cs u r n) → ConflictDirectly h cs y n
-        → (t ≡ u) × (value_of h cs y ≢ value_of h cs n)
+    pub conflict_values : (y n : ℕ) (t u : Attr) (s r : ℕ) → (a : Stands h o ls t s y)
+        → (b : Stands h o ls u r n) → ConflictDirectly h ls y n
+        → (t ≡ u) × (value_of h ls y ≢ value_of h ls n)
     conflict_values y n t u s r a b c =
         let x : c.first ≡ a.op = some_one c.first a.op (sym c.at_first ∙ a.found) in
         let z : c.second ≡ b.op = some_one c.second b.op (sym c.at_second ∙ b.found) in
@@ -158,14 +158,14 @@ module _ (h : List Op) (o : ObjectId) (cs : List (List Setter)) (chains : AreCha
 
     -- WHAT STANDS BEFORE a conflicting_with setter, unknown too and with another value, conflicts
     -- as well
-    module _ (t : Attr) (s y n : ℕ) (l : s < 8) (a : Stands h o cs t s y)
-        (b : Stands h o cs t s n ⊎ ((r : ℕ) × Stands h o cs t r n)) (c : ConflictDirectly h cs y n)
-        (k : SetterIndex) (first : IsFirstUnknown cs t s c.second.past k) where
-      other_of : (r : ℕ) × Stands h o cs t r n
+    module _ (t : Attr) (s y n : ℕ) (l : s < 8) (a : Stands h o ls t s y)
+        (b : Stands h o ls t s n ⊎ ((r : ℕ) × Stands h o ls t r n)) (c : ConflictDirectly h ls y n)
+        (k : SetterIndex) (first : IsFirstUnknown ls t s c.second.past k) where
+      other_of : (r : ℕ) × Stands h o ls t r n
       other_of = elim b [ inl z ↦ (s, z) | inr z ↦ z ]
 
-      pub conflict_before : (m : ℕ) → (d : Stands h o cs t s m) → k.index ≤ d.index → m ≤ y
-          → value_of h cs m ≢ value_of h cs n → ConflictDirectly h cs m n
+      pub conflict_before : (m : ℕ) → (d : Stands h o ls t s m) → k.index ≤ d.index → m ≤ y
+          → value_of h ls m ≢ value_of h ls n → ConflictDirectly h ls m n
       conflict_before m d from to differ =
           let e = other_of.1 in
           let x : c.first ≡ a.op = some_one c.first a.op (sym c.at_first ∙ a.found) in
@@ -254,7 +254,7 @@ pushed_before (x ∷ xs) y zero d l = refl
 pushed_before (x ∷ xs) y (suc i) d l = pushed_before xs y i d (omega arith)
 
 -- whether a setter gives another value
-module _ (h : List Op) (cs : List (List Setter)) where
+module _ (h : List Op) (ls : List (List Setter)) where
   value_found : (r : Option ℕ) → value_at h r ≡ op_value (op_at h r)
   value_found (Some q) = refl
   value_found None = refl
@@ -270,56 +270,56 @@ module _ (h : List Op) (cs : List (List Setter)) where
   )
   other_value None v = (λ t e. absurd cc, λ f. refl)
 
-  pub others_differ : (n m : ℕ) (v : Value) (b : Bool) → Some v ≡ value_of h cs n
-      → b ≡ number_gives h cs v m → IsTrue (not b) ↔ (value_of h cs n ≢ value_of h cs m)
+  pub others_differ : (n m : ℕ) (v : Value) (b : Bool) → Some v ≡ value_of h ls n
+      → b ≡ number_gives h ls v m → IsTrue (not b) ↔ (value_of h ls n ≢ value_of h ls m)
   others_differ n m v b e f =
-      let same : number_gives h cs v m ≡ is_value (value_of h cs m) v = ap (λ r. is_value r v)
-      (value_found (position_of cs m)) in
-      subst (λ z. IsTrue (not z) ↔ (value_of h cs n ≢ value_of h cs m)) (sym (f ∙ same))
-      (subst (λ z. IsTrue (not (is_value (value_of h cs m) v)) ↔ (z ≢ value_of h cs m)) e
-      (other_value (value_of h cs m) v))
+      let same : number_gives h ls v m ≡ is_value (value_of h ls m) v = ap (λ r. is_value r v)
+      (value_found (position_of ls m)) in
+      subst (λ z. IsTrue (not z) ↔ (value_of h ls n ≢ value_of h ls m)) (sym (f ∙ same))
+      (subst (λ z. IsTrue (not (is_value (value_of h ls m) v)) ↔ (z ≢ value_of h ls m)) e
+      (other_value (value_of h ls m) v))
 
   -- a next one with the same value hands its own on
   pub other_kept : (n : ℕ) (r : Option Member) (m : Member) → r ≡ Some m
-      → ¬ (value_of h cs n ≢ value_of h cs m.number) → OneChain m.number n
-      → IsOther h cs n r m.other
-  other_kept n r m e f one = subst (λ z. IsOther h cs n z m.other) (sym e) (
+      → ¬ (value_of h ls n ≢ value_of h ls m.number) → OneLog m.number n
+      → IsOther h ls n r m.other
+  other_kept n r m e f one = subst (λ z. IsOther h ls n z m.other) (sym e) (
     λ off. absurd (off one),
     λ c differ. absurd (f differ),
     λ c same. refl,
   )
 
--- a setter stands in one chain
-pub chain_determined : (h : List Op) (o : ObjectId) (cs : List (List Setter)) → AreChainsOf h o cs
-    → (n q : ℕ) → (k : IsNumber cs n q) → (setter_of n).chain ≡ chain_of k.attribute k.site
-chain_determined h o cs chains n q k =
-    let p = index_short h o cs chains k.attribute k.site k.index k.setter k.within k.at in
+-- a setter stands in one log
+pub log_determined : (h : List Op) (o : ObjectId) (ls : List (List Setter)) → AreLogsOf h o ls
+    → (n q : ℕ) → (k : IsNumber ls n q) → (setter_of n).log ≡ log_of k.attribute k.site
+log_determined h o ls logs n q k =
+    let p = index_short h o ls logs k.attribute k.site k.index k.setter k.within k.at in
     let m = k.number in
     omega (arith, p, m)
 
-module _ (h : List Op) (o : ObjectId) (cs : List (List Setter)) (us : List ℕ) (ms : List Member)
-    (k : SetterIndex) (n y : ℕ) (w : CanConflict h o cs us ms k n y) where
-  abbrev at_y : Stands h o cs w.attribute w.site y
-  at_y = let q = w.members.setters y w.among in in_chain h o cs w.members.chains y q.0 q.1
-      w.attribute w.site w.within (w.chain ∙ w.unknown.chain)
+module _ (h : List Op) (o : ObjectId) (ls : List (List Setter)) (us : List ℕ) (ms : List Member)
+    (k : SetterIndex) (n y : ℕ) (w : CanConflict h o ls us ms k n y) where
+  abbrev at_y : Stands h o ls w.attribute w.site y
+  at_y = let q = w.members.setters y w.among in in_log h o ls w.members.logs y q.0 q.1
+      w.attribute w.site w.within (w.log ∙ w.unknown.log)
 
-  abbrev at_n : (t : Attr) × (r : ℕ) × Stands h o cs t r n
-  at_n = let z = conflict_numbers h o cs w.members.chains y n w.conflict in
-      (z.3.attribute, z.3.site, stands h o cs w.members.chains n z.1 z.3)
+  abbrev at_n : (t : Attr) × (r : ℕ) × Stands h o ls t r n
+  at_n = let z = conflict_numbers h o ls w.members.logs y n w.conflict in
+      (z.3.attribute, z.3.site, stands h o ls w.members.logs n z.1 z.3)
 
   -- what conflicts is of the attribute of the setter
-  of_attribute : (r : ℕ) × Stands h o cs w.attribute r n
+  of_attribute : (r : ℕ) × Stands h o ls w.attribute r n
   of_attribute =
       let z = at_n in
-      let e = conflict_values h o cs w.members.chains w.valid y n w.attribute z.0 w.site z.1 at_y
+      let e = conflict_values h o ls w.members.logs w.valid y n w.attribute z.0 w.site z.1 at_y
       z.2
       w.conflict in
-      (z.1, subst (λ t. Stands h o cs t z.1 n) (sym e.0) z.2)
+      (z.1, subst (λ t. Stands h o ls t z.1 n) (sym e.0) z.2)
 
-  -- what stands in the chain has its index there
-  index_is : (x : ℕ) → (d : Stands h o cs w.attribute w.site x) → (setter_of x).index ≡ d.index
-  index_is x d = (setter_of-chain_number (chain_of w.attribute w.site) d.index x
-      (index_short h o cs w.members.chains w.attribute w.site d.index d.setter w.within d.at)
+  -- what stands in the log has its index there
+  index_is : (x : ℕ) → (d : Stands h o ls w.attribute w.site x) → (setter_of x).index ≡ d.index
+  index_is x d = (setter_of-log_number (log_of w.attribute w.site) d.index x
+      (index_short h o ls w.members.logs w.attribute w.site d.index d.setter w.within d.at)
       d.number).1
 
   -- y stands from k on
@@ -342,38 +342,38 @@ module _ (h : List Op) (o : ObjectId) (cs : List (List Setter)) (us : List ℕ) 
       ] in
       subst (λ z. k.index ≤ z) (sym (index_is y a)) (w.unknown.from a.index a.setter a.at late)
 
-  at_member : (x : ℕ) → Contains us x → (setter_of x).chain ≡ k.chain
-      → Stands h o cs w.attribute w.site x
-  at_member x i c = let q = w.members.setters x i in in_chain h o cs w.members.chains x q.0 q.1
-      w.attribute w.site w.within (c ∙ w.unknown.chain)
+  at_member : (x : ℕ) → Contains us x → (setter_of x).log ≡ k.log
+      → Stands h o ls w.attribute w.site x
+  at_member x i c = let q = w.members.setters x i in in_log h o ls w.members.logs x q.0 q.1
+      w.attribute w.site w.within (c ∙ w.unknown.log)
 
-  before_y : (x : ℕ) → (d : Stands h o cs w.attribute w.site x) → k.index ≤ d.index → x ≤ y
-      → value_of h cs x ≢ value_of h cs n → ConflictDirectly h cs x n
-  before_y = conflict_before h o cs w.members.chains w.valid w.attribute w.site y n w.within at_y
+  before_y : (x : ℕ) → (d : Stands h o ls w.attribute w.site x) → k.index ≤ d.index → x ≤ y
+      → value_of h ls x ≢ value_of h ls n → ConflictDirectly h ls x n
+  before_y = conflict_before h o ls w.members.logs w.valid w.attribute w.site y n w.within at_y
       (inr of_attribute) w.conflict k w.unknown
 
   -- THE FIRST MEMBER from k on, or its other, conflicts
-  pub first_conflicts : (f : Member) → IsOfChain ms k f → f.number ≤ y
-      → ConflictDirectly h cs f.number n ⊎ ((x : ℕ) × (f.other ≡ Some x) × ConflictDirectly h cs x
+  pub first_conflicts : (f : Member) → IsOfLog ms k f → f.number ≤ y
+      → ConflictDirectly h ls f.number n ⊎ ((x : ℕ) × (f.other ≡ Some x) × ConflictDirectly h ls x
       n)
   first_conflicts f c le =
-      let d = at_member f.number (w.members.members.listed f c.listed) c.chain in
+      let d = at_member f.number (w.members.members.listed f c.listed) c.log in
       let e = of_attribute.1 in
-      elim (values_parted (value_of h cs f.number) (value_of h cs n) d.value e.value d.gives
+      elim (values_parted (value_of h ls f.number) (value_of h ls n) d.value e.value d.gives
       e.gives) [
         | inr differ ↦ inl (before_y f.number d (subst (λ z. k.index ≤ z) (index_is f.number d)
             c.from) le differ)
         | inl same ↦
-            let parted = (conflict_values h o cs w.members.chains w.valid y n w.attribute
+            let parted = (conflict_values h o ls w.members.logs w.valid y n w.attribute
             w.attribute
             w.site of_attribute.0 at_y e w.conflict).1 in
             let m = w.members.members.each f c.listed in
-            let t = m.first y w.among (w.chain ∙ sym c.chain) le (λ g. parted (g ∙ same)) in
+            let t = m.first y w.among (w.log ∙ sym c.log) le (λ g. parted (g ∙ same)) in
             let i = m.is t.0 t.1 in
             let from = c.from in
             let above = i.2 in
             let one = i.1 in
-            let x = at_member t.0 i.0 (i.1 ∙ c.chain) in
+            let x = at_member t.0 i.0 (i.1 ∙ c.log) in
             inr (
               t.0,
               t.1,
@@ -383,7 +383,7 @@ module _ (h : List Op) (o : ObjectId) (cs : List (List Setter)) (us : List ℕ) 
       ]
 
   -- the member of y stands from k on
-  pub member_there : (m : Member) × IsOfChain ms k m × (m.number ≡ y)
+  pub member_there : (m : Member) × IsOfLog ms k m × (m.number ≡ y)
   member_there =
       let m = w.members.members.all y w.among in
       let e = m.2 in
@@ -392,46 +392,46 @@ module _ (h : List Op) (o : ObjectId) (cs : List (List Setter)) (us : List ℕ) 
         record {
           listed = m.1;
           from = subst (λ z. k.index ≤ (setter_of z).index) (sym e) s;
-          chain = ap (λ z. (setter_of z).chain) e ∙ w.chain;
+          log = ap (λ z. (setter_of z).log) e ∙ w.log;
         },
         e,
       )
 
 -- no setter of us of the first j sites conflicts
 abbrev pub NoneAt : List Op → List (List Setter) → List Member → ℕ → ℕ → Type 0
-NoneAt h cs ms n j = (o : ObjectId) (us : List ℕ) → AreMembersOf h o cs us ms → (y q : ℕ)
-    → Contains us y → (k : IsNumber cs y q) → k.site < j → ¬ (ConflictDirectly h cs y n)
+NoneAt h ls ms n j = (o : ObjectId) (us : List ℕ) → AreMembersOf h o ls us ms → (y q : ℕ)
+    → Contains us y → (k : IsNumber ls y q) → k.site < j → ¬ (ConflictDirectly h ls y n)
 
-module _ (h : List Op) (cs : List (List Setter)) (ms : List Member) (n : ℕ) where
-  pub none_yet : NoneAt h cs ms n 0
+module _ (h : List Op) (ls : List (List Setter)) (ms : List Member) (n : ℕ) where
+  pub none_yet : NoneAt h ls ms n 0
   none_yet o us members y q i k l c = omega (arith, l)
 
   -- one site more
   pub none_more : (valid : IsValid h) (op : Op) (v : Value) (j : ℕ) (start : SetterIndex)
-      → op_of h cs n ≡ Some op → op_value (Some op) ≡ Some v → j < 8
-      → IsFirstUnknown cs (attribute_of v) j op.past start →
-      ((o : ObjectId) (us : List ℕ) (y : ℕ) → ¬ (CanConflict h o cs us ms start n y))
-      → NoneAt h cs ms n j → NoneAt h cs ms n (j + 1)
+      → op_of h ls n ≡ Some op → op_value (Some op) ≡ Some v → j < 8
+      → IsFirstUnknown ls (attribute_of v) j op.past start →
+      ((o : ObjectId) (us : List ℕ) (y : ℕ) → ¬ (CanConflict h o ls us ms start n y))
+      → NoneAt h ls ms n j → NoneAt h ls ms n (j + 1)
   none_more valid op v j start found gives l first calm none o us members y q i k m c =
       elim (cases_lt k.site j) [
         | inl less ↦ none o us members y q i k less c
         | inr more ↦
             let here : k.site ≡ j = omega (arith, more, m) in
-            let a = stands h o cs members.chains y q k in
-            let z = conflict_numbers h o cs members.chains y n c in
-            let b = stands h o cs members.chains n z.1 z.3 in
+            let a = stands h o ls members.logs y q k in
+            let z = conflict_numbers h o ls members.logs y n c in
+            let b = stands h o ls members.logs n z.1 z.3 in
             let second : c.second ≡ op = some_one c.second op (sym c.at_second ∙ found) in
             let own : b.op ≡ op = some_one b.op op (sym b.found ∙ found) in
             let value : b.value ≡ v = some_one b.value v (ap value_set (sym b.change)
             ∙ (ap (λ (w : Op). value_set w.change) own ∙ gives)) in
-            let e = (conflict_values h o cs members.chains valid y n k.attribute z.3.attribute
+            let e = (conflict_values h o ls members.logs valid y n k.attribute z.3.attribute
             k.site
             z.3.site a b c).0 in
             let attribute : k.attribute ≡ attribute_of v = e
             ∙ (sym b.attribute ∙ ap attribute_of value)
             in
-            let chain : chain_of k.attribute k.site ≡ chain_of (attribute_of v) j = ap
-            (λ t. chain_of t k.site) attribute ∙ ap (chain_of (attribute_of v)) here in
+            let log : log_of k.attribute k.site ≡ log_of (attribute_of v) j = ap
+            (λ t. log_of t k.site) attribute ∙ ap (log_of (attribute_of v)) here in
             calm o us y (record {
               valid = valid;
               members = members;
@@ -440,24 +440,24 @@ module _ (h : List Op) (cs : List (List Setter)) (ms : List Member) (n : ℕ) wh
               attribute = attribute_of v;
               site = j;
               within = l;
-              unknown = subst (λ (w : Op). IsFirstUnknown cs (attribute_of v) j w.past start)
+              unknown = subst (λ (w : Op). IsFirstUnknown ls (attribute_of v) j w.past start)
                   (sym second) first;
-              chain = chain_determined h o cs members.chains y q k ∙ (chain ∙ sym first.chain);
+              log = log_determined h o ls members.logs y q k ∙ (log ∙ sym first.log);
             })
       ]
 
   -- all sites
-  pub none_at_all : NoneAt h cs ms n 8 → (o : ObjectId) (us : List ℕ) → AreMembersOf h o cs us ms
-      → ¬ (ConflictsWithOne h cs us n)
+  pub none_at_all : NoneAt h ls ms n 8 → (o : ObjectId) (us : List ℕ) → AreMembersOf h o ls us ms
+      → ¬ (ConflictsWithOne h ls us n)
   none_at_all none o us members w =
       let q = members.setters w.one w.among in
       none o us members w.one q.0 w.among q.1 q.1.within w.conflict
 
-  pub none_given : (o : ObjectId) (us : List ℕ) → AreMembersOf h o cs us ms → (op : Op)
-      → op_of h cs n ≡ Some op → op_value (Some op) ≡ None → ¬ (ConflictsWithOne h cs us n)
+  pub none_given : (o : ObjectId) (us : List ℕ) → AreMembersOf h o ls us ms → (op : Op)
+      → op_of h ls n ≡ Some op → op_value (Some op) ≡ None → ¬ (ConflictsWithOne h ls us n)
   none_given o us members op found e w =
-      let z = conflict_numbers h o cs members.chains w.one n w.conflict in
-      let b = stands h o cs members.chains n z.1 z.3 in
+      let z = conflict_numbers h o ls members.logs w.one n w.conflict in
+      let b = stands h o ls members.logs n z.1 z.3 in
       let own : b.op ≡ op = some_one b.op op (sym b.found ∙ found) in
       let g : Some b.value ≡ None = ap value_set (sym b.change)
       ∙ (ap (λ (w : Op). value_set w.change) own ∙ e) in
@@ -465,9 +465,9 @@ module _ (h : List Op) (cs : List (List Setter)) (ms : List Member) (n : ℕ) wh
 
 -- ---- the members one by one
 
-module _ (h : List Op) (cs : List (List Setter)) where
+module _ (h : List Op) (ls : List (List Setter)) where
   -- what is put in front of the numbers comes behind the members
-  pub members_none : AreMembers h cs [] []
+  pub members_none : AreMembers h ls [] []
   members_none = record {
     falling = λ i j d k l. absurd (omega (arith, l));
     listed = λ m i. absurd (not_Contains-nil m i);
@@ -475,9 +475,9 @@ module _ (h : List Op) (cs : List (List Setter)) where
     each = λ m i. absurd (not_Contains-nil m i);
   }
 
-  module _ (us : List ℕ) (ms : List Member) (are : AreMembers h cs us ms) (x : ℕ) (r : Option ℕ)
+  module _ (us : List ℕ) (ms : List Member) (are : AreMembers h ls us ms) (x : ℕ) (r : Option ℕ)
       (below : (u : ℕ) → Contains us u → x < u)
-      (other : IsOther h cs x (slice_get ms (length ms - 1)) r) where
+      (other : IsOther h ls x (slice_get ms (length ms - 1)) r) where
     abbrev new : Member
     new = record { number = x; other = r }
 
@@ -521,13 +521,13 @@ module _ (h : List Op) (cs : List (List Setter)) where
     tail o i = Contains-cons_tail x us o i
 
     -- the new member, by the last one
-    is_member : PointsToOther h cs (x ∷ us) new
+    is_member : PointsToOther h ls (x ∷ us) new
     is_member = by_last (slice_get ms (length ms - 1)) refl other
       where
         by_values : (l : Member) → Contains ms l × ((m : Member) → Contains ms m
-            → l.number ≤ m.number) → OneChain l.number x → IsOther h cs x (Some l) r →
-            (value_of h cs x ≡ value_of h cs l.number) ⊎ (value_of h cs x ≢ value_of h cs l.number)
-            → PointsToOther h cs (x ∷ us) new
+            → l.number ≤ m.number) → OneLog l.number x → IsOther h ls x (Some l) r →
+            (value_of h ls x ≡ value_of h ls l.number) ⊎ (value_of h ls x ≢ value_of h ls l.number)
+            → PointsToOther h ls (x ∷ us) new
         by_values l w one f (inr differ) =
             let e : r ≡ Some l.number = f.1 one differ in
             let inside = are.listed l w.0 in
@@ -535,15 +535,15 @@ module _ (h : List Op) (cs : List (List Setter)) where
             record {
               is = λ o g.
                   let same : l.number ≡ o = some_one l.number o (sym e ∙ g) in
-                  subst (λ z. Contains (x ∷ us) z × OneChain z x × (x ≤ z)
-                  × (value_of h cs z ≢ value_of h cs x)) same (
+                  subst (λ z. Contains (x ∷ us) z × OneLog z x × (x ≤ z)
+                  × (value_of h ls z ≢ value_of h ls x)) same (
                     tail l.number inside,
                     one,
                     omega (arith, low),
                     λ k. differ (sym k),
                   );
               first = λ y i c le d. elim (Contains-cons_cases x us y i) [
-                | inl same ↦ absurd (d (ap (value_of h cs) same))
+                | inl same ↦ absurd (d (ap (value_of h ls) same))
                 | inr j ↦ let n = are.all y j in let q = w.1 n.0 n.1 in let k = n.2 in
                     (l.number, e, omega (arith, q, k))
               ];
@@ -558,7 +558,7 @@ module _ (h : List Op) (cs : List (List Setter)) where
                   let up = k.2 in
                   (tail o k.0, k.1 ∙ one, omega (arith, low, up), λ q. k.3 (q ∙ same));
               first = λ y i c le d. elim (Contains-cons_cases x us y i) [
-                | inl equal ↦ absurd (d (ap (value_of h cs) equal))
+                | inl equal ↦ absurd (d (ap (value_of h ls) equal))
                 | inr j ↦
                     let n = are.all y j in
                     let q = w.1 n.0 n.1 in
@@ -569,15 +569,15 @@ module _ (h : List Op) (cs : List (List Setter)) where
               ];
             }
 
-        by_chain : (l : Member) → Contains ms l × ((m : Member) → Contains ms m
-            → l.number ≤ m.number) → IsOther h cs x (Some l) r
-            → (OneChain l.number x) ⊎ (¬ (OneChain l.number x)) → PointsToOther h cs (x ∷ us) new
-        by_chain l w f (inl one) = by_values l w one f
-            (options_parted (value_of h cs x) (value_of h cs l.number))
-        by_chain l w f (inr off) = record {
+        by_log : (l : Member) → Contains ms l × ((m : Member) → Contains ms m
+            → l.number ≤ m.number) → IsOther h ls x (Some l) r
+            → (OneLog l.number x) ⊎ (¬ (OneLog l.number x)) → PointsToOther h ls (x ∷ us) new
+        by_log l w f (inl one) = by_values l w one f
+            (options_parted (value_of h ls x) (value_of h ls l.number))
+        by_log l w f (inr off) = record {
           is = λ o g. absurd (let k : None ≡ Some o = sym (f.0 off) ∙ g in cc);
           first = λ y i c le d. elim (Contains-cons_cases x us y i) [
-            | inl same ↦ absurd (d (ap (value_of h cs) same))
+            | inl same ↦ absurd (d (ap (value_of h ls) same))
             | inr j ↦
                 let n = are.all y j in
                 let q = w.1 n.0 n.1 in
@@ -587,20 +587,20 @@ module _ (h : List Op) (cs : List (List Setter)) where
           ];
         }
 
-        by_last : (q : Option Member) → slice_get ms (length ms - 1) ≡ q → IsOther h cs x q r
-            → PointsToOther h cs (x ∷ us) new
+        by_last : (q : Option Member) → slice_get ms (length ms - 1) ≡ q → IsOther h ls x q r
+            → PointsToOther h ls (x ∷ us) new
         by_last None e f = record {
           is = λ o g. absurd (let k : None ≡ Some o = sym f ∙ g in cc);
           first = λ y i c le d. elim (Contains-cons_cases x us y i) [
-            | inl same ↦ absurd (d (ap (value_of h cs) same))
+            | inl same ↦ absurd (d (ap (value_of h ls) same))
             | inr j ↦ let m = are.all y j in absurd (no_last e m.0 m.1)
           ];
         }
-        by_last (Some l) e f = by_chain l (last_least l e) f
-            (cases_eq (setter_of l.number).chain (setter_of x).chain)
+        by_last (Some l) e f = by_log l (last_least l e) f
+            (cases_eq (setter_of l.number).log (setter_of x).log)
 
     -- an old member does not see the new one, which is below it
-    still_member : (m : Member) → Contains ms m → PointsToOther h cs (x ∷ us) m
+    still_member : (m : Member) → Contains ms m → PointsToOther h ls (x ∷ us) m
     still_member m i =
         let k = are.each m i in
         let low = below m.number (are.listed m i) in
@@ -613,7 +613,7 @@ module _ (h : List Op) (cs : List (List Setter)) where
         }
 
     -- ONE MEMBER MORE
-    pub members_more : AreMembers h cs (x ∷ us) (ms ++ new ∷ [])
+    pub members_more : AreMembers h ls (x ∷ us) (ms ++ new ∷ [])
     members_more = record {
       falling = λ i j d k l. elim (pushed_at ms new j d l) [
         | inl a ↦
@@ -649,7 +649,7 @@ module _ (h : List Op) (cs : List (List Setter)) where
       ];
       each = λ m i. elim (Contains-push_cases ms new m i) [
         | inl j ↦ still_member m j
-        | inr e ↦ subst (λ z. PointsToOther h cs (x ∷ us) z) e is_member
+        | inr e ↦ subst (λ z. PointsToOther h ls (x ∷ us) z) e is_member
       ];
     }
 
@@ -670,13 +670,13 @@ rising_drop (y ∷ ys) r (suc k) d l u i =
     (subst (λ z. Contains (drop z (y ∷ ys)) u) e i)
 
 -- the next number from behind stands in front of those that were met
-pub next_behind : (h : List Op) (cs : List (List Setter)) (xs : List ℕ) → IsRising xs → (b d : ℕ)
-    → b < length xs → (ms new : List Member) → AreMembers h cs (drop (length xs - b) xs) ms
+pub next_behind : (h : List Op) (ls : List (List Setter)) (xs : List ℕ) → IsRising xs → (b d : ℕ)
+    → b < length xs → (ms new : List Member) → AreMembers h ls (drop (length xs - b) xs) ms
     → (r : Option ℕ) →
-    IsOther h cs (slice_index_or xs (length xs - 1 - b) d) (slice_get ms (length ms - 1)) r
+    IsOther h ls (slice_index_or xs (length xs - 1 - b) d) (slice_get ms (length ms - 1)) r
     → new ≡ ms ++ record { number = slice_index_or xs (length xs - 1 - b) d; other = r } ∷ []
-    → AreMembers h cs (drop (length xs - (b + 1)) xs) new
-next_behind h cs xs rises b d l ms new are r other e =
+    → AreMembers h ls (drop (length xs - (b + 1)) xs) new
+next_behind h ls xs rises b d l ms new are r other e =
     let k = length xs - 1 - b in
     let first : length xs - (b + 1) ≡ k = omega (arith, l) in
     let second : k + 1 ≡ length xs - b = omega (arith, l) in
@@ -686,20 +686,20 @@ next_behind h cs xs rises b d l ms new are r other e =
     ∙ (drop_more xs k d inside ∙ ap (λ z. slice_index_or xs k d ∷ drop z xs) second) in
     let below = λ (u : ℕ) (i : Contains (drop (length xs - b) xs) u). rising_drop xs rises k d
     inside u (subst (λ z. Contains (drop z xs) u) (sym second) i) in
-    let all = members_more h cs (drop (length xs - b) xs) ms are (slice_index_or xs k d) r below
+    let all = members_more h ls (drop (length xs - b) xs) ms are (slice_index_or xs k d) r below
     other in
-    subst (λ z. AreMembers h cs z new) (sym parted)
-    (subst (λ z. AreMembers h cs (slice_index_or xs k d ∷ drop (length xs - b) xs) z) (sym e) all)
+    subst (λ z. AreMembers h ls z new) (sym parted)
+    (subst (λ z. AreMembers h ls (slice_index_or xs k d ∷ drop (length xs - b) xs) z) (sym e) all)
 
-pub all_behind : (h : List Op) (cs : List (List Setter)) (xs : List ℕ) (b : ℕ) → length xs ≤ b
-    → (ms : List Member) → AreMembers h cs (drop (length xs - b) xs) ms → AreMembers h cs xs ms
-all_behind h cs xs b l ms are = let e : length xs - b ≡ 0 = omega (arith, l) in
-    subst (λ z. AreMembers h cs (drop z xs) ms) e are
+pub all_behind : (h : List Op) (ls : List (List Setter)) (xs : List ℕ) (b : ℕ) → length xs ≤ b
+    → (ms : List Member) → AreMembers h ls (drop (length xs - b) xs) ms → AreMembers h ls xs ms
+all_behind h ls xs b l ms are = let e : length xs - b ≡ 0 = omega (arith, l) in
+    subst (λ z. AreMembers h ls (drop z xs) ms) e are
 
-pub none_behind : (h : List Op) (cs : List (List Setter)) (xs : List ℕ)
-    → AreMembers h cs (drop (length xs - 0) xs) []
-none_behind h cs xs = subst (λ z. AreMembers h cs z [])
-    (sym (drop_all (length xs - 0) xs (omega arith))) (members_none h cs)
+pub none_behind : (h : List Op) (ls : List (List Setter)) (xs : List ℕ)
+    → AreMembers h ls (drop (length xs - 0) xs) []
+none_behind h ls xs = subst (λ z. AreMembers h ls z [])
+    (sym (drop_all (length xs - 0) xs (omega arith))) (members_none h ls)
 
 -- ---- the first member from a number on
 
@@ -769,12 +769,12 @@ zero_from (suc p) f = absurd (f (omega arith))
 
 -- ---- where the clock stops counting
 
-pub first_unknown_is : (cs : List (List Setter)) (t : Attr) (s : ℕ) (past : Clock)
-    (ss : List Setter) (x n : ℕ) → x ≡ chain_of t s → ss ≡ setters cs t s
+pub first_unknown_is : (ls : List (List Setter)) (t : Attr) (s : ℕ) (past : Clock)
+    (ss : List Setter) (x n : ℕ) → x ≡ log_of t s → ss ≡ setters ls t s
     → IsCountUpTo ss (entry past (s + 1)) n
-    → IsFirstUnknown cs t s past (record { chain = x; index = n })
-first_unknown_is cs t s past ss x n e same c = record {
-  chain = e;
+    → IsFirstUnknown ls t s past (record { log = x; index = n })
+first_unknown_is ls t s past ss x n e same c = record {
+  log = e;
   unknown = λ p f at l.
       let w = got_at ss p f (subst (λ z. slice_get z p ≡ Some f) (sym same) at) in
       let u = c.above p f l w.0 in

@@ -16,25 +16,25 @@ use Rattle.gf_ops.specs.OperationOrder.{IsSite}
 use Rattle.gf_ops.specs.ValidHistory.{IsValid}
 use Rattle.gf_ops.proofs.HistoryLemmas.{site_in_range}
 use Rattle.gf_ops.proofs.ValidityLemmas.{same_op}
-use Rattle.gf_rivals.specs.declared.chain.Setter.{Setter}
-use Rattle.gf_rivals.specs.Chains.{chain_of, setters}
+use Rattle.gf_rivals.specs.declared.log.Setter.{Setter}
+use Rattle.gf_rivals.specs.Logs.{log_of, setters}
 use Rattle.gf_rivals.specs.Giving.{value_set}
 use Rattle.gf_rivals.specs.Naming.{AddsNamed, HasSeq, IsNamed, IsSetterNumber}
-use Rattle.gf_rivals.specs.Rivals.{AreChainsOf}
+use Rattle.gf_rivals.specs.Rivals.{AreLogsOf}
 use Rattle.gf_rivals.proofs.IndexLemmas.{Contains-joined}
 use Rattle.gf_rivals.proofs.NumberLemmas.{some_one, contained_at}
-use Rattle.gf_rivals.proofs.SetterIndexLemmas.{chain_number}
+use Rattle.gf_rivals.proofs.SetterIndexLemmas.{log_number}
 
--- ---- in one chain
+-- ---- in one log
 
--- the setter with the number m in its chain has an index there
-pub index_in : (cs : List (List Setter)) (i k m n : ℕ) (ss : List Setter)
-    → ss ≡ slice_index_or cs i [] → i ≡ k → IsSetterNumber cs k m n
-    → (p : ℕ) × HasSeq ss m p × (n ≡ chain_number i p)
-index_in cs i k m n ss e same w = (
+-- the setter with the number m in its log has an index there
+pub index_in : (ls : List (List Setter)) (i k m n : ℕ) (ss : List Setter)
+    → ss ≡ slice_index_or ls i [] → i ≡ k → IsSetterNumber ls k m n
+    → (p : ℕ) × HasSeq ss m p × (n ≡ log_number i p)
+index_in ls i k m n ss e same w = (
   w.index,
-  subst (λ z. HasSeq z m w.index) (sym (e ∙ ap (λ z. slice_index_or cs z []) same)) w.setter,
-  w.number ∙ ap (λ z. chain_number z w.index) (sym same),
+  subst (λ z. HasSeq z m w.index) (sym (e ∙ ap (λ z. slice_index_or ls z []) same)) w.setter,
+  w.number ∙ ap (λ z. log_number z w.index) (sym same),
 )
 
 -- ---- by an id
@@ -44,15 +44,15 @@ pub own_site : (h : List Op) → IsValid h → (op : Op) (id : OpId) → Contain
 own_site h valid op id c e = subst (λ (z : OpId). IsSite z.site) e
     (site_in_range op (valid.in_range op c))
 
-module _ (h : List Op) (o : ObjectId) (cs : List (List Setter)) (chains : AreChainsOf h o cs)
+module _ (h : List Op) (o : ObjectId) (ls : List (List Setter)) (logs : AreLogsOf h o ls)
     (id : OpId) where
   -- a setter with the number of the id at its site is that of the id
   pub named_from : (t : Attr) (n : ℕ) → IsSite id.site
-      → IsSetterNumber cs (chain_of t (id.site - 1)) id.seq n → IsNamed h cs id n
+      → IsSetterNumber ls (log_of t (id.site - 1)) id.seq n → IsNamed h ls id n
   named_from t n site w =
       let within : id.site - 1 < 8 = let l = site in omega (arith, l.0, l.1) in
       let e = w.setter.setter in
-      let is = chains.each t (id.site - 1) w.index e within w.setter.at in
+      let is = logs.each t (id.site - 1) w.index e within w.setter.at in
       let own : is.op.id.site ≡ id.site = let l = site in let s = is.site in
       omega (arith, l.0, s) in
       let seq : is.op.id.seq ≡ id.seq = is.seq ∙ w.setter.seq in
@@ -74,19 +74,19 @@ module _ (h : List Op) (o : ObjectId) (cs : List (List Setter)) (chains : AreCha
       }
 
   pub some_named : (t : Attr) (r : Option ℕ) → IsSite id.site
-      → IfSome r (λ n. IsSetterNumber cs (chain_of t (id.site - 1)) id.seq n)
-      → IfSome r (λ n. IsNamed h cs id n)
+      → IfSome r (λ n. IsSetterNumber ls (log_of t (id.site - 1)) id.seq n)
+      → IfSome r (λ n. IsNamed h ls id n)
   some_named t (Some n) site w = named_from t n site w
   some_named t None site w = tt
 
-  -- the setter of the id stands in the chain of the attribute that its operation sets
+  -- the setter of the id stands in the log of the attribute that its operation sets
   pub numbered_from : IsValid h → (op : Op) (x : ObjectId) (v : Value) (aim : List OpId)
       → Contains h op → op.id ≡ id → op.change ≡ Set x v aim →
-      (t : Attr) → t ≡ attribute_of v → (n : ℕ) → IsNamed h cs id n
-      → IsSetterNumber cs (chain_of t (id.site - 1)) id.seq n
+      (t : Attr) → t ≡ attribute_of v → (n : ℕ) → IsNamed h ls id n
+      → IsSetterNumber ls (log_of t (id.site - 1)) id.seq n
   numbered_from valid op x v aim c e change t own n k =
       let m = k.number in
-      let is = chains.each m.attribute m.site m.index m.setter m.within m.at in
+      let is = logs.each m.attribute m.site m.index m.setter m.within m.at in
       let same : is.op ≡ k.op = some_one is.op k.op
       (sym is.at ∙ (ap (slice_get h) m.position ∙ k.at)) in
       let one : k.op ≡ op = same_op h valid k.op op (contained_at h k.position k.op k.at) c
@@ -103,20 +103,20 @@ module _ (h : List Op) (o : ObjectId) (cs : List (List Setter)) (chains : AreCha
         index = m.index;
         setter = record {
           setter = m.setter;
-          at = subst (λ z. slice_get (setters cs t z) m.index ≡ Some m.setter) site
-              (subst (λ z. slice_get (setters cs z m.site) m.index ≡ Some m.setter) attribute m.at);
+          at = subst (λ z. slice_get (setters ls t z) m.index ≡ Some m.setter) site
+              (subst (λ z. slice_get (setters ls z m.site) m.index ≡ Some m.setter) attribute m.at);
           seq = seq;
         };
-        number = subst (λ z. n ≡ chain_number (chain_of t z) m.index) site
-            (subst (λ z. n ≡ chain_number (chain_of z m.site) m.index) attribute m.number);
+        number = subst (λ z. n ≡ log_number (log_of t z) m.index) site
+            (subst (λ z. n ≡ log_number (log_of z m.site) m.index) attribute m.number);
       }
 
   -- what makes an object is no setter
   pub made_unnamed : IsValid h → (op : Op) (start : Start) → Contains h op → op.id ≡ id
-      → op.change ≡ Create start → (n : ℕ) → ¬ (IsNamed h cs id n)
+      → op.change ≡ Create start → (n : ℕ) → ¬ (IsNamed h ls id n)
   made_unnamed valid op start c e change n k =
       let m = k.number in
-      let is = chains.each m.attribute m.site m.index m.setter m.within m.at in
+      let is = logs.each m.attribute m.site m.index m.setter m.within m.at in
       let same : is.op ≡ k.op = some_one is.op k.op
       (sym is.at ∙ (ap (slice_get h) m.position ∙ k.at)) in
       let one : k.op ≡ op = same_op h valid k.op op (contained_at h k.position k.op k.at) c
@@ -127,13 +127,13 @@ module _ (h : List Op) (o : ObjectId) (cs : List (List Setter)) (chains : AreCha
 
 -- ---- one more number
 
-pub adds_number : (h : List Op) (cs : List (List Setter)) (id : OpId) (x : ℕ) (old new : List ℕ)
-    → IsNamed h cs id x → ((n : ℕ) → IsNamed h cs id n → Some x ≡ Some n) → new ≡ joined x old
-    → AddsNamed h cs id old new
-adds_number h cs id x old new w one e n = (
+pub adds_number : (h : List Op) (ls : List (List Setter)) (id : OpId) (x : ℕ) (old new : List ℕ)
+    → IsNamed h ls id x → ((n : ℕ) → IsNamed h ls id n → Some x ≡ Some n) → new ≡ joined x old
+    → AddsNamed h ls id old new
+adds_number h ls id x old new w one e n = (
   λ i. elim ((Contains-joined x old n).0 (subst (λ z. Contains z n) e i)) [
     | inl j ↦ inl j
-    | inr d ↦ inr (subst (λ z. IsNamed h cs id z) (sym d) w)
+    | inr d ↦ inr (subst (λ z. IsNamed h ls id z) (sym d) w)
   ],
   λ i. subst (λ z. Contains z n) (sym e)
       ((Contains-joined x old n).1

@@ -12,13 +12,13 @@ use Rattle.gf_ops.specs.declared.change.Attr.TheVariants.{Place, Points, Size, C
 use Rattle.gf_ops.specs.declared.change.Change.{Change}
 use Rattle.gf_ops.specs.declared.change.Change.TheVariants.{Create, Set}
 use Rattle.gf_ops.specs.Attribute.{attribute_of}
-use Rattle.gf_rivals.specs.declared.chain.Setter.{Setter}
+use Rattle.gf_rivals.specs.declared.log.Setter.{Setter}
 use Rattle.gf_rivals.specs.declared.setter_index.TheConstants.{FIRST_ABOVE}
 use Rattle.gf_rivals.specs.SetterIndexes.{setter_of}
-use Rattle.gf_rivals.specs.Chains.{attribute_index, chain_of, setters, position_of}
-use Rattle.gf_rivals.specs.Rivals.{IsNumber, AreChainsOf}
-use Rattle.gf_rivals.proofs.SetterIndexLemmas.{chain_number, number_of-setter_of, one_chain_number}
-use Rattle.gf_rivals.proofs.SetterIndexLemmas.{setter_of-chain_number}
+use Rattle.gf_rivals.specs.Logs.{attribute_index, log_of, setters, position_of}
+use Rattle.gf_rivals.specs.Rivals.{IsNumber, AreLogsOf}
+use Rattle.gf_rivals.proofs.SetterIndexLemmas.{log_number, number_of-setter_of, one_log_number}
+use Rattle.gf_rivals.proofs.SetterIndexLemmas.{setter_of-log_number}
 use Rattle.gf_rivals.proofs.SetterLemmas.{from_index}
 
 pub some_one : {X : Type 0} (a b : X) → Some a ≡ Some b → a ≡ b
@@ -80,12 +80,12 @@ abbrev attribute_set : Change → Attr
 attribute_set (Create start) = Place
 attribute_set (Set o v aim) = attribute_of v
 
--- ---- chains
+-- ---- logs
 
-past_end : (cs : List (List Setter)) (k : ℕ) → length cs ≤ k → get_or cs k [] ≡ []
+past_end : (ls : List (List Setter)) (k : ℕ) → length ls ≤ k → get_or ls k [] ≡ []
 past_end [] k l = refl
-past_end (c ∷ cs) zero l = absurd (omega arith)
-past_end (c ∷ cs) (suc k) l = past_end cs k (omega arith)
+past_end (c ∷ ls) zero l = absurd (omega arith)
+past_end (c ∷ ls) (suc k) l = past_end ls k (omega arith)
 
 -- a position that is found comes of a setter
 setter_found : (r : Option Setter) (q : ℕ) → option_map (λ (e : Setter). e.position) r ≡ Some q
@@ -95,36 +95,36 @@ setter_found (Some e) q f = (e, refl, some_one e.position q f)
 
 -- ---- numbers
 
--- the number of the setter at the index p in the chain with the index k
-pub number_in : (cs : List (List Setter)) (k p : ℕ) (e : Setter) → k < 48
-    → slice_get (get_or cs k []) p ≡ Some e → IsNumber cs (chain_number k p) e.position
-number_in cs k p e l at =
+-- the number of the setter at the index p in the log with the index k
+pub number_in : (ls : List (List Setter)) (k p : ℕ) (e : Setter) → k < 48
+    → slice_get (get_or ls k []) p ≡ Some e → IsNumber ls (log_number k p) e.position
+number_in ls k p e l at =
     let first : attribute_index (attribute_at (k / 8)) ≡ k / 8 = attribute_index_at (k / 8)
     (omega (arith, l)) in
-    let chain : k ≡ chain_of (attribute_at (k / 8)) (k % 8) = omega (arith, first) in
+    let log : k ≡ log_of (attribute_at (k / 8)) (k % 8) = omega (arith, first) in
     record {
       attribute = attribute_at (k / 8);
       site = k % 8;
       within = omega arith;
       index = p;
       setter = e;
-      at = subst (λ z. slice_get (get_or cs z []) p ≡ Some e) chain at;
-      number = ap (λ z. chain_number z p) chain;
+      at = subst (λ z. slice_get (get_or ls z []) p ≡ Some e) log at;
+      number = ap (λ z. log_number z p) log;
       position = refl;
     }
 
-module _ (h : List Op) (o : ObjectId) (cs : List (List Setter)) (chains : AreChainsOf h o cs) where
+module _ (h : List Op) (o : ObjectId) (ls : List (List Setter)) (logs : AreLogsOf h o ls) where
   pub index_short : (t : Attr) (s p : ℕ) (e : Setter) → s < 8
-      → slice_get (setters cs t s) p ≡ Some e → p < 2 ^ 32
-  index_short t s p e l a = let w = (from_index (setters cs t s) p e a).0 in
-      let k = (chains.ordered t s l).short in omega (arith, w, k)
+      → slice_get (setters ls t s) p ≡ Some e → p < 2 ^ 32
+  index_short t s p e l a = let w = (from_index (setters ls t s) p e a).0 in
+      let k = (logs.ordered t s l).short in omega (arith, w, k)
 
   pub one_setter : (n : ℕ) (t u : Attr) (s r p q : ℕ) (e f : Setter) → s < 8 → r < 8
-      → slice_get (setters cs t s) p ≡ Some e → slice_get (setters cs u r) q ≡ Some f →
-      n ≡ chain_number (chain_of t s) p → n ≡ chain_number (chain_of u r) q
+      → slice_get (setters ls t s) p ≡ Some e → slice_get (setters ls u r) q ≡ Some f →
+      n ≡ log_number (log_of t s) p → n ≡ log_number (log_of u r) q
       → (t ≡ u) × (s ≡ r) × (e ≡ f)
   one_setter n t u s r p q e f l m a b x y =
-      let w = one_chain_number (chain_of t s) (chain_of u r) p q (index_short t s p e l a)
+      let w = one_log_number (log_of t s) (log_of u r) p q (index_short t s p e l a)
       (index_short u r q f m b) (sym x ∙ y) in
       let c = w.0 in
       let same_site : s ≡ r = omega (arith, c, l, m) in
@@ -132,23 +132,23 @@ module _ (h : List Op) (o : ObjectId) (cs : List (List Setter)) (chains : AreCha
       let same : t ≡ u = one_attribute t u same_index in (
         same,
         same_site,
-        some_one e f (sym a ∙ (ap (λ z. slice_get (setters cs t s) z) w.1
-            ∙ (ap (λ z. slice_get (setters cs t z) q) same_site
-            ∙ (ap (λ z. slice_get (setters cs z r) q) same ∙ b)))),
+        some_one e f (sym a ∙ (ap (λ z. slice_get (setters ls t s) z) w.1
+            ∙ (ap (λ z. slice_get (setters ls t z) q) same_site
+            ∙ (ap (λ z. slice_get (setters ls z r) q) same ∙ b)))),
       )
 
   -- a number has one position
-  pub one_position : (n q r : ℕ) → IsNumber cs n q → IsNumber cs n r → q ≡ r
+  pub one_position : (n q r : ℕ) → IsNumber ls n q → IsNumber ls n r → q ≡ r
   one_position n q r k m =
       let w = one_setter n k.attribute m.attribute k.site m.site k.index m.index k.setter m.setter
       k.within m.within k.at m.at k.number m.number in
       sym k.position ∙ (ap (λ (z : Setter). z.position) w.2 ∙ m.position)
 
   -- setters with one number at their site have one index
-  one_index : (t : Attr) (s p q : ℕ) (e f : Setter) → s < 8 → slice_get (setters cs t s) p ≡ Some e
-      → slice_get (setters cs t s) q ≡ Some f → e.seq ≡ f.seq → p ≡ q
+  one_index : (t : Attr) (s p q : ℕ) (e f : Setter) → s < 8 → slice_get (setters ls t s) p ≡ Some e
+      → slice_get (setters ls t s) q ≡ Some f → e.seq ≡ f.seq → p ≡ q
   one_index t s p q e f l a b same =
-      let ss = setters cs t s in
+      let ss = setters ls t s in
       let v = got_at ss p e a in
       let w = got_at ss q f b in
       let x : get_or ss q e ≡ f = get_or_default ss q e f w.0 ∙ w.1 in
@@ -156,22 +156,22 @@ module _ (h : List Op) (o : ObjectId) (cs : List (List Setter)) (chains : AreCha
       elim (cases_lt p q) [
         | inl n ↦
             let u = subst (λ (z : Setter). (get_or ss p e).seq < z.seq) x
-            ((chains.ordered t s l).rise p q e n w.0) in
+            ((logs.ordered t s l).rise p q e n w.0) in
             let r = subst (λ (z : Setter). z.seq < f.seq) v.1 u in absurd (omega (arith, r, same))
         | inr n ↦ elim (cases_lt q p) [
           | inl m ↦
               let u = subst (λ (z : Setter). (get_or ss q f).seq < z.seq) y
-              ((chains.ordered t s l).rise q p f m v.0) in
+              ((logs.ordered t s l).rise q p f m v.0) in
               let r = subst (λ (z : Setter). z.seq < e.seq) w.1 u in absurd (omega (arith, r, same))
           | inr m ↦ omega (arith, n, m)
         ]
       ]
 
   -- a position has one number
-  pub one_number : (m n q : ℕ) → IsNumber cs m q → IsNumber cs n q → m ≡ n
+  pub one_number : (m n q : ℕ) → IsNumber ls m q → IsNumber ls n q → m ≡ n
   one_number m n q k l =
-      let i = chains.each k.attribute k.site k.index k.setter k.within k.at in
-      let j = chains.each l.attribute l.site l.index l.setter l.within l.at in
+      let i = logs.each k.attribute k.site k.index k.setter k.within k.at in
+      let j = logs.each l.attribute l.site l.index l.setter l.within l.at in
       let there : k.setter.position ≡ l.setter.position = k.position ∙ sym l.position in
       let op : i.op ≡ j.op = some_one i.op j.op (sym i.at ∙ (ap (slice_get h) there ∙ j.at)) in
       let site : k.site ≡ l.site = let x : k.site + 1 ≡ l.site + 1 = sym i.site
@@ -180,17 +180,17 @@ module _ (h : List Op) (o : ObjectId) (cs : List (List Setter)) (chains : AreCha
       let attribute : k.attribute ≡ l.attribute =
       sym i.attribute ∙ (ap attribute_set (sym i.change)
       ∙ (ap (λ (z : Op). attribute_set z.change) op ∙ (ap attribute_set j.change ∙ j.attribute))) in
-      let at : slice_get (setters cs l.attribute l.site) k.index ≡ Some k.setter =
-      subst (λ z. slice_get (setters cs l.attribute z) k.index ≡ Some k.setter) site
-      (subst (λ z. slice_get (setters cs z k.site) k.index ≡ Some k.setter) attribute k.at) in
+      let at : slice_get (setters ls l.attribute l.site) k.index ≡ Some k.setter =
+      subst (λ z. slice_get (setters ls l.attribute z) k.index ≡ Some k.setter) site
+      (subst (λ z. slice_get (setters ls z k.site) k.index ≡ Some k.setter) attribute k.at) in
       let index = one_index l.attribute l.site k.index l.index k.setter l.setter l.within at l.at
       seq in
-      k.number ∙ (ap (λ z. chain_number (chain_of z k.site) k.index) attribute
-      ∙ (ap (λ z. chain_number (chain_of l.attribute z) k.index) site
-      ∙ (ap (chain_number (chain_of l.attribute l.site)) index ∙ sym l.number)))
+      k.number ∙ (ap (λ z. log_number (log_of z k.site) k.index) attribute
+      ∙ (ap (λ z. log_number (log_of l.attribute z) k.index) site
+      ∙ (ap (log_number (log_of l.attribute l.site)) index ∙ sym l.number)))
 
-  -- numbers lie below those of all chains
-  pub number_below : (n q : ℕ) → IsNumber cs n q → n < FIRST_ABOVE
+  -- numbers lie below those of all logs
+  pub number_below : (n q : ℕ) → IsNumber ls n q → n < FIRST_ABOVE
   number_below n q k =
       let r = attribute_index_below k.attribute in
       let l = k.within in
@@ -199,41 +199,41 @@ module _ (h : List Op) (o : ObjectId) (cs : List (List Setter)) (chains : AreCha
       omega (arith, r, l, p, e)
 
   -- a number's position is in the history
-  pub number_within : (n q : ℕ) → IsNumber cs n q → q < length h
+  pub number_within : (n q : ℕ) → IsNumber ls n q → q < length h
   number_within n q k =
-      let i = chains.each k.attribute k.site k.index k.setter k.within k.at in
+      let i = logs.each k.attribute k.site k.index k.setter k.within k.at in
       subst (λ z. z < length h) k.position (got_at h k.setter.position i.op i.at).0
 
   -- a setter's number leads to its position
-  pub position_is : (n q : ℕ) → IsNumber cs n q → position_of cs n ≡ Some q
+  pub position_is : (n q : ℕ) → IsNumber ls n q → position_of ls n ≡ Some q
   position_is n q k =
-      let w = setter_of-chain_number (chain_of k.attribute k.site) k.index n
+      let w = setter_of-log_number (log_of k.attribute k.site) k.index n
       (index_short k.attribute k.site k.index k.setter k.within k.at) k.number in
       ap (λ z. option_map (λ (e : Setter). e.position)
-      (slice_get (get_or cs z []) (setter_of n).index)) w.0
+      (slice_get (get_or ls z []) (setter_of n).index)) w.0
       ∙ (ap (λ z. option_map (λ (e : Setter). e.position)
-      (slice_get (setters cs k.attribute k.site) z)) w.1
+      (slice_get (setters ls k.attribute k.site) z)) w.1
       ∙ (ap (option_map (λ (e : Setter). e.position)) k.at ∙ ap Some k.position))
 
   -- and only a setter's number leads to one
-  pub number_from : (n q : ℕ) → position_of cs n ≡ Some q → IsNumber cs n q
+  pub number_from : (n q : ℕ) → position_of ls n ≡ Some q → IsNumber ls n q
   number_from n q f =
-      let k = (setter_of n).chain in
+      let k = (setter_of n).log in
       let p = (setter_of n).index in
-      let w = setter_found (slice_get (get_or cs k []) p) q f in
-      let all = chains.count in
+      let w = setter_found (slice_get (get_or ls k []) p) q f in
+      let all = logs.count in
       let inside : k < 48 = elim (cases_lt k 48) [
         | inl l ↦ l
         | inr l ↦ absurd (let e : slice_get [] p ≡ Some w.0 = ap (λ z. slice_get z p)
-            (sym (past_end cs k (omega (arith, l, all)))) ∙ w.1 in cc)
+            (sym (past_end ls k (omega (arith, l, all)))) ∙ w.1 in cc)
       ] in
-      subst (λ z. IsNumber cs z q) (sym (number_of-setter_of n))
-      (subst (IsNumber cs (chain_number k p)) w.2 (number_in cs k p w.0 inside w.1))
+      subst (λ z. IsNumber ls z q) (sym (number_of-setter_of n))
+      (subst (IsNumber ls (log_number k p)) w.2 (number_in ls k p w.0 inside w.1))
 
   -- a number of no setter has no position
-  pub position_none : (n : ℕ) → ((q : ℕ) → ¬ (IsNumber cs n q)) → position_of cs n ≡ None
-  position_none n f = by_case (position_of cs n) refl
+  pub position_none : (n : ℕ) → ((q : ℕ) → ¬ (IsNumber ls n q)) → position_of ls n ≡ None
+  position_none n f = by_case (position_of ls n) refl
     where
-      by_case : (r : Option ℕ) → position_of cs n ≡ r → r ≡ None
+      by_case : (r : Option ℕ) → position_of ls n ≡ r → r ≡ None
       by_case None e = refl
       by_case (Some q) e = absurd (f q (number_from n q e))

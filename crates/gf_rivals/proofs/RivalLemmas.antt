@@ -30,13 +30,13 @@ use Rattle.gf_rivals.specs.Giving.{op_value, value_set, fingerprint_given}
 use Rattle.gf_rivals.specs.Comparing.{is_value, value_at, number_gives}
 use Rattle.gf_rivals.specs.Indexes.{numbers_at, IsIndex}
 use Rattle.gf_rivals.proofs.FingerprintLemmas.{determined_value}
-use Rattle.gf_rivals.specs.declared.chain.Setter.{Setter}
-use Rattle.gf_rivals.specs.Chains.{chain_of, setters, position_of, IsUnknown}
-use Rattle.gf_rivals.specs.Rivals.{IsNumber, AreChainsOf, GivesAt, AreRivals, IsDirect}
+use Rattle.gf_rivals.specs.declared.log.Setter.{Setter}
+use Rattle.gf_rivals.specs.Logs.{log_of, setters, position_of, IsUnknown}
+use Rattle.gf_rivals.specs.Rivals.{IsNumber, AreLogsOf, GivesAt, AreRivals, IsDirect}
 use Rattle.gf_rivals.proofs.NextLemmas.{fresh, unknown}
 use Rattle.gf_rivals.proofs.NumberLemmas.{some_one, contained_at, one_position, position_is}
 use Rattle.gf_rivals.proofs.NumberLemmas.{number_from}
-use Rattle.gf_rivals.proofs.SetterIndexLemmas.{chain_number}
+use Rattle.gf_rivals.proofs.SetterIndexLemmas.{log_number}
 
 -- ---- values and attributes
 
@@ -61,10 +61,10 @@ given_is v t w e = absurd cc
 
 -- ---- one direction, and the other
 
-module _ (h : List Op) (o : ObjectId) (cs : List (List Setter)) (chains : AreChainsOf h o cs) where
+module _ (h : List Op) (o : ObjectId) (ls : List (List Setter)) (logs : AreLogsOf h o ls) where
   module _ (valid : IsValid h) (a : Op) (in_range : IsInRange a) (accepted : IsAccepted h a)
       (v : Value) {aim : List OpId} (change : a.change ≡ Set o v aim) (d : List ℕ)
-      (rivals : AreRivals h o cs v a.past d) where
+      (rivals : AreRivals h o ls v a.past d) where
     abbrev t : Attr
     t = attribute_of v
 
@@ -76,12 +76,12 @@ module _ (h : List Op) (o : ObjectId) (cs : List (List Setter)) (chains : AreCha
     gives b w e = ap (λ c. change_value c (attribute_of w)) e ∙ own_value w
 
     -- a rival conflicts
-    rival_conflicts : (n : ℕ) → IsUnknown cs t a.past 8 n
-        → ((q : ℕ) → IsNumber cs n q → ¬ (GivesAt h o q v)) → IsDirect h cs a n
+    rival_conflicts : (n : ℕ) → IsUnknown ls t a.past 8 n
+        → ((q : ℕ) → IsNumber ls n q → ¬ (GivesAt h o q v)) → IsDirect h ls a n
     rival_conflicts n u other =
         let e = u.setter.setter in
-        let is = chains.each t u.site u.setter.index e u.within u.setter.at in
-        let number : IsNumber cs n e.position = record {
+        let is = logs.each t u.site u.setter.index e u.within u.setter.at in
+        let number : IsNumber ls n e.position = record {
           attribute = t;
           site = u.site;
           within = u.within;
@@ -128,11 +128,11 @@ module _ (h : List Op) (o : ObjectId) (cs : List (List Setter)) (chains : AreCha
         }
 
     -- what conflicts is a rival
-    conflict_rivals : (n : ℕ) → IsDirect h cs a n
-        → IsUnknown cs t a.past 8 n × ((q : ℕ) → IsNumber cs n q → ¬ (GivesAt h o q v))
+    conflict_rivals : (n : ℕ) → IsDirect h ls a n
+        → IsUnknown ls t a.past 8 n × ((q : ℕ) → IsNumber ls n q → ¬ (GivesAt h o q v))
     conflict_rivals n c =
         let k = c.number in
-        let is = chains.each k.attribute k.site k.index k.setter k.within k.at in
+        let is = logs.each k.attribute k.site k.index k.setter k.within k.at in
         let same_op : is.op ≡ c.op = some_one is.op c.op
         (sym is.at ∙ (ap (slice_get h) k.position ∙ c.at)) in
         let set_to : c.op.change ≡ Set o is.value is.aim = ap (λ (z : Op). z.change) (sym same_op)
@@ -156,13 +156,13 @@ module _ (h : List Op) (o : ObjectId) (cs : List (List Setter)) (chains : AreCha
             setter = record {
               index = k.index;
               setter = k.setter;
-              at = subst (λ z. slice_get (setters cs z k.site) k.index ≡ Some k.setter) one k.at;
+              at = subst (λ z. slice_get (setters ls z k.site) k.index ≡ Some k.setter) one k.at;
               unknown = late;
-              number = subst (λ z. n ≡ chain_number (chain_of z k.site) k.index) one k.number;
+              number = subst (λ z. n ≡ log_number (log_of z k.site) k.index) one k.number;
             };
           },
           λ q m g.
-              let there : c.position ≡ q = one_position h o cs chains n c.position q k m in
+              let there : c.position ≡ q = one_position h o ls logs n c.position q k m in
               let b : c.op ≡ g.op = some_one c.op g.op (sym c.at ∙ (ap (slice_get h) there ∙ g.at))
               in
               let gave : value_as v apart.attribute ≡ Some apart.second =
@@ -173,7 +173,7 @@ module _ (h : List Op) (o : ObjectId) (cs : List (List Setter)) (chains : AreCha
         )
 
     -- THE RIVALS are the direct conflicts among the object's setters
-    pub rivals_conflict : (n : ℕ) → Contains d n ↔ IsDirect h cs a n
+    pub rivals_conflict : (n : ℕ) → Contains d n ↔ IsDirect h ls a n
     rivals_conflict n = (
       λ i. let w = (rivals n).0 i in rival_conflicts n w.0 w.1,
       λ c. (rivals n).1 (conflict_rivals n c),
@@ -181,17 +181,17 @@ module _ (h : List Op) (o : ObjectId) (cs : List (List Setter)) (chains : AreCha
 
 -- ---- by what is found
 
-module _ (h : List Op) (o : ObjectId) (cs : List (List Setter)) (chains : AreChainsOf h o cs)
-    (ix : List (Fingerprint × List ℕ)) (index : IsIndex h cs ix) (v : Value) (past : Clock)
-    (u : List ℕ) (unknowns : (n : ℕ) → Contains u n ↔ IsUnknown cs (attribute_of v) past 8 n) where
+module _ (h : List Op) (o : ObjectId) (ls : List (List Setter)) (logs : AreLogsOf h o ls)
+    (ix : List (Fingerprint × List ℕ)) (index : IsIndex h ls ix) (v : Value) (past : Clock)
+    (u : List ℕ) (unknowns : (n : ℕ) → Contains u n ↔ IsUnknown ls (attribute_of v) past 8 n) where
   -- a setter that gives v
   Gives : ℕ → Type 0
-  Gives n = (q : ℕ) × IsNumber cs n q × GivesAt h o q v
+  Gives n = (q : ℕ) × IsNumber ls n q × GivesAt h o q v
 
   -- the unknown ones without e, which give v and are all unknown ones that do
   rivals_by : (e d : List ℕ) → ((n : ℕ) → Contains e n → Gives n)
       → ((n : ℕ) → Contains u n → Gives n → Contains e n)
-      → ((n : ℕ) → Contains d n ↔ (Contains u n × (¬ Contains e n))) → AreRivals h o cs v past d
+      → ((n : ℕ) → Contains d n ↔ (Contains u n × (¬ Contains e n))) → AreRivals h o ls v past d
   unfolding Gives
   rivals_by e d f g k n = (
     λ i. let w = (k n).0 i in ((unknowns n).0 w.0, λ q m a. w.1 (g n w.0 (q, m, a))),
@@ -199,9 +199,9 @@ module _ (h : List Op) (o : ObjectId) (cs : List (List Setter)) (chains : AreCha
   )
 
   -- what stands at a number's position sets a value of the object
-  value_set_at : (n q : ℕ) → IsNumber cs n q → (x : Value) × GivesAt h o q x
+  value_set_at : (n q : ℕ) → IsNumber ls n q → (x : Value) × GivesAt h o q x
   value_set_at n q k =
-      let i = chains.each k.attribute k.site k.index k.setter k.within k.at in (
+      let i = logs.each k.attribute k.site k.index k.setter k.within k.at in (
         i.value,
         record {
           op = i.op;
@@ -226,7 +226,7 @@ module _ (h : List Op) (o : ObjectId) (cs : List (List Setter)) (chains : AreCha
 
   -- no setter has the fingerprint of v
   pub rivals_none : lookup (is_at (fingerprint_cmp (fingerprint_of v))) ix ≡ None
-      → AreRivals h o cs v past u
+      → AreRivals h o ls v past u
   rivals_none none = rivals_by [] u
       (λ n i. absurd (not_Contains-nil n i))
       (λ n i w. subst (λ z. Contains z n) (ap (λ (r : Option (List ℕ)). unwrap_or r []) none)
@@ -240,7 +240,7 @@ module _ (h : List Op) (o : ObjectId) (cs : List (List Setter)) (chains : AreCha
 
     -- all setters with the fingerprint of v give v
     pub rivals_own : has_own_fingerprint v ≡ true → (d : List ℕ) → d ≡ without s u
-        → AreRivals h o cs v past d
+        → AreRivals h o ls v past d
     unfolding Gives
     rivals_own own d e = rivals_by s d
         (λ n i.
@@ -259,8 +259,8 @@ module _ (h : List Op) (o : ObjectId) (cs : List (List Setter)) (chains : AreCha
 
     -- only the setters e of those that are unknown give v
     pub rivals_compared : (c e d : List ℕ) → c ≡ common s u
-        → ((n : ℕ) → Contains e n ↔ (Contains c n × (number_gives h cs v n ≡ true)))
-        → d ≡ without e u → AreRivals h o cs v past d
+        → ((n : ℕ) → Contains e n ↔ (Contains c n × (number_gives h ls v n ≡ true)))
+        → d ≡ without e u → AreRivals h o ls v past d
     unfolding Gives
     rivals_compared c e d both f k = rivals_by e d
         (λ n i. gives_v n ((f n).0 i).1)
@@ -270,20 +270,20 @@ module _ (h : List Op) (o : ObjectId) (cs : List (List Setter)) (chains : AreCha
                 i,
                 in_list s n (subst (λ z. Contains z n) there (listed n w)),
               )),
-          ap (λ r. is_value (value_at h r) v) (position_is h o cs chains n w.0 w.1)
+          ap (λ r. is_value (value_at h r) v) (position_is h o ls logs n w.0 w.1)
               ∙ (ap (λ r. is_value r v) (value_given_at w.0 v w.2) ∙ value_eq-same v),
         ))
         (λ n. let w = Contains-without e u n in
         (λ i. w.0 (subst (λ z. Contains z n) k i), λ i. subst (λ z. Contains z n) (sym k) (w.1 i)))
       where
-        gives_v : (n : ℕ) → number_gives h cs v n ≡ true → Gives n
-        gives_v n t = by_position (position_of cs n) refl t
+        gives_v : (n : ℕ) → number_gives h ls v n ≡ true → Gives n
+        gives_v n t = by_position (position_of ls n) refl t
           where
-            by_position : (r : Option ℕ) → position_of cs n ≡ r → is_value (value_at h r) v ≡ true
+            by_position : (r : Option ℕ) → position_of ls n ≡ r → is_value (value_at h r) v ≡ true
                 → Gives n
             by_position None a b = absurd cc
             by_position (Some q) a b =
-                let m = number_from h o cs chains n q a in
+                let m = number_from h o ls logs n q a in
                 let x = value_set_at n q m in
                 let same : x.0 ≡ v = value_eq-true x.0 v
                 (ap (λ r. is_value r v) (sym (value_given_at q x.0 x.1)) ∙ b) in

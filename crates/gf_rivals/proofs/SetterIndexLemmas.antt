@@ -1,15 +1,15 @@
--- The number that a set keeps for a setter determines its chain and its index there.
+-- The number that a set keeps for a setter determines its log and its index there.
 use Rattle.std.proofs.Common.{◌≡◌, ℕ, ◌<◌, ◌≤◌, ◌^◌, inl, inr, arith}
 use Rattle.std.proofs.lemmas.Bool.{cases_lt}
 use Rattle.gf_rivals.specs.SetterIndexes.{number_of, setter_of}
 
--- the number of the setter at the index p of chain k
-abbrev pub chain_number : ℕ → ℕ → ℕ
-chain_number k p = number_of (record { chain = k; index = p })
+-- the number of the setter at the index p of log k
+abbrev pub log_number : ℕ → ℕ → ℕ
+log_number k p = number_of (record { log = k; index = p })
 
-pub one_chain_number : (k l p q : ℕ) → p < 2 ^ 32 → q < 2 ^ 32 → chain_number k p ≡ chain_number l q
+pub one_log_number : (k l p q : ℕ) → p < 2 ^ 32 → q < 2 ^ 32 → log_number k p ≡ log_number l q
     → (k ≡ l) × (p ≡ q)
-one_chain_number k l p q a b e = elim (cases_lt k l) [
+one_log_number k l p q a b e = elim (cases_lt k l) [
   | inl x ↦ absurd (omega (arith, a, b, e, x))
   | inr x ↦ elim (cases_lt l k) [
     | inl y ↦ absurd (omega (arith, a, b, e, y))
@@ -18,24 +18,24 @@ one_chain_number k l p q a b e = elim (cases_lt k l) [
 ]
 
 -- what a set keeps under the number of a setter is that setter
-pub setter_of-chain_number : (k p n : ℕ) → p < 2 ^ 32 → n ≡ chain_number k p
-    → ((setter_of n).chain ≡ k) × ((setter_of n).index ≡ p)
-setter_of-chain_number k p n l e = (omega (arith, l, e), omega (arith, l, e))
+pub setter_of-log_number : (k p n : ℕ) → p < 2 ^ 32 → n ≡ log_number k p
+    → ((setter_of n).log ≡ k) × ((setter_of n).index ≡ p)
+setter_of-log_number k p n l e = (omega (arith, l, e), omega (arith, l, e))
 
 -- and the number is that of what a set keeps under it
 pub number_of-setter_of : (n : ℕ) → n ≡ number_of (setter_of n)
 number_of-setter_of n = omega arith
 
--- from a setter on in its chain, the numbers are from its own on
-pub number_reached : (k i n f : ℕ) → f ≡ chain_number k i → (setter_of n).chain ≡ k
+-- from a setter on in its log, the numbers are from its own on
+pub number_reached : (k i n f : ℕ) → f ≡ log_number k i → (setter_of n).log ≡ k
     → i ≤ (setter_of n).index → f ≤ n
 number_reached k i n f e c l = omega (arith, e, c, l)
 
-pub index_reached : (k i n f : ℕ) → f ≡ chain_number k i → (setter_of n).chain ≡ k → f ≤ n
+pub index_reached : (k i n f : ℕ) → f ≡ log_number k i → (setter_of n).log ≡ k → f ≤ n
     → i ≤ (setter_of n).index
 index_reached k i n f e c l = omega (arith, e, c, l)
 
--- what lies between a setter's number and another one of its chain is of the chain
-pub between_chain : (k i s f m : ℕ) → s ≡ chain_number k i → s ≤ f → f ≤ m → (setter_of m).chain ≡ k
-    → (setter_of f).chain ≡ k
-between_chain k i s f m e a b c = omega (arith, e, a, b, c)
+-- what lies between a setter's number and another one of its log is of the log
+pub between_log : (k i s f m : ℕ) → s ≡ log_number k i → s ≤ f → f ≤ m → (setter_of m).log ≡ k
+    → (setter_of f).log ≡ k
+between_log k i s f m e a b c = omega (arith, e, a, b, c)

@@ -14,10 +14,10 @@ use Rattle.gf_base.proofs.ListLemmas.{not_Contains-nil}
 use Rattle.gf_maximal.proofs.PutLemmas.{Contains-range}
 use Rattle.gf_maximal.proofs.UnitedLemmas.{Contains-united}
 use Rattle.gf_maximal.specs.Growing.{united}
-use Rattle.gf_rivals.specs.declared.chain.Setter.{Setter}
+use Rattle.gf_rivals.specs.declared.log.Setter.{Setter}
 use Rattle.gf_rivals.specs.Setters.{AreSetters, IsCountUpTo, IsNumberAbove}
-use Rattle.gf_rivals.specs.Chains.{attribute_index, chain_of, setters, IsUnknown}
-use Rattle.gf_rivals.proofs.SetterIndexLemmas.{chain_number}
+use Rattle.gf_rivals.specs.Logs.{attribute_index, log_of, setters, IsUnknown}
+use Rattle.gf_rivals.proofs.SetterIndexLemmas.{log_number}
 
 seq_up_to : (m n : ℕ) → nat_le m n ≡ true → m ≤ n
 seq_up_to m n h = grind (arith, nat_tests)
@@ -57,15 +57,15 @@ a_setter = record { seq = 0; position = 0 }
 
 -- the numbers from the first unknown one on are those of the setters above m
 pub above_exact : (ss : List Setter) (b m k n : ℕ) (g : List ℕ) → IsCountUpTo ss m k
-    → g ≡ range_with_len (chain_number b k) (chain_number b (length ss) - chain_number b k)
+    → g ≡ range_with_len (log_number b k) (log_number b (length ss) - log_number b k)
     → Contains g n ↔ IsNumberAbove ss b m n
 above_exact ss b m k n g c e =
-    let r = Contains-range (chain_number b (length ss) - chain_number b k) (chain_number b k) n in
+    let r = Contains-range (log_number b (length ss) - log_number b k) (log_number b k) n in
     let bound = c.bound in (
       λ h.
           let w = r.0 (subst (λ z. Contains z n) e h) in
           let l = w.0 in let u = w.1 in
-          let p = n - chain_number b 0 in
+          let p = n - log_number b 0 in
           let in_it : p < length ss = omega arith in
           let from : k ≤ p = omega arith in
           record {
@@ -91,14 +91,14 @@ above_exact ss b m k n g c e =
 
 -- ---- site by site
 
-pub unknown_more : (cs : List (List Setter)) (t : Attr) (past : Clock) (m j n : ℕ) → j ≡ m + 1
-    → IsUnknown cs t past j n ↔ (IsUnknown cs t past m n ⊎ IsNumberAbove (setters cs t m)
-    (chain_of t m) (entry past (m + 1)) n)
-unknown_more cs t past m j n e = (
+pub unknown_more : (ls : List (List Setter)) (t : Attr) (past : Clock) (m j n : ℕ) → j ≡ m + 1
+    → IsUnknown ls t past j n ↔ (IsUnknown ls t past m n ⊎ IsNumberAbove (setters ls t m)
+    (log_of t m) (entry past (m + 1)) n)
+unknown_more ls t past m j n e = (
   λ h. let w = h.within in elim (cases_lt h.site m) [
     | inl l ↦ inl (record { site = h.site; within = l; setter = h.setter })
     | inr l ↦ let same : h.site ≡ m = omega arith in
-        inr (subst (λ z. IsNumberAbove (setters cs t z) (chain_of t z) (entry past (z + 1))
+        inr (subst (λ z. IsNumberAbove (setters ls t z) (log_of t z) (entry past (z + 1))
         n) same h.setter)
   ],
   λ h. elim h [
@@ -157,12 +157,12 @@ setters_push ss qs s e a f z b = subst AreSetters (sym e) (record {
     ]
 
 pub above_result : {B : Type 0} (r : Result (List ℕ) B) (ss : List Setter) (b m k l u v : ℕ)
-    → IsCountUpTo ss m k → l ≡ length ss → u ≡ chain_number b k → v ≡ chain_number b l
+    → IsCountUpTo ss m k → l ≡ length ss → u ≡ log_number b k → v ≡ log_number b l
     → IfOk r (λ g. g ≡ range_with_len u (v - u))
     → IfOk r (λ g. (n : ℕ) → Contains g n ↔ IsNumberAbove ss b m n)
 above_result (Ok g) ss b m k l u v c e first end f = λ n. above_exact ss b m k n g c
-    (subst (λ z. g ≡ range_with_len (chain_number b k) (z - chain_number b k))
-    (end ∙ ap (chain_number b) e) (subst (λ z. g ≡ range_with_len z (v - z)) first f))
+    (subst (λ z. g ≡ range_with_len (log_number b k) (z - log_number b k))
+    (end ∙ ap (log_number b) e) (subst (λ z. g ≡ range_with_len z (v - z)) first f))
 above_result (Err x) ss b m k l u v c e first end f = tt
 
 pub counted : (ss qs : List Setter) (m k : ℕ) → ss ≡ qs → k ≤ length qs
@@ -178,7 +178,7 @@ counted ss qs m k e b p = subst (λ z. IsCountUpTo z m k) (sym e) (record {
     seq_past : (a c : ℕ) → nat_le a c ≡ false → c < a
     seq_past a c h = grind (arith, nat_tests)
 
--- the found ones and those of the chain ss, where it has some
+-- the found ones and those of the log ss, where it has some
 pub found_more : (found more new : List ℕ) (ss : List Setter) (b m : ℕ)
     → ((n : ℕ) → Contains more n ↔ IsNumberAbove ss b m n) → new ≡ united found more → (n : ℕ)
     → Contains new n ↔ (Contains found n ⊎ IsNumberAbove ss b m n)
@@ -201,28 +201,28 @@ found_none found more ss b m f e n = (
 )
 
 -- the found ones, with those of one more site
-pub site_more : (cs : List (List Setter)) (t : Attr) (past : Clock) (m j f : ℕ) (found new : List ℕ)
+pub site_more : (ls : List (List Setter)) (t : Attr) (past : Clock) (m j f : ℕ) (found new : List ℕ)
     → j ≡ m + 1 → f ≡ attribute_index t * 8 →
-    ((n : ℕ) → Contains found n ↔ IsUnknown cs t past m n) →
-    ((n : ℕ) → Contains new n ↔ (Contains found n ⊎ IsNumberAbove (get_or cs (f + m) [])
+    ((n : ℕ) → Contains found n ↔ IsUnknown ls t past m n) →
+    ((n : ℕ) → Contains new n ↔ (Contains found n ⊎ IsNumberAbove (get_or ls (f + m) [])
     (f + m) (get_or past.0 m 0) n)) →
-    (n : ℕ) → Contains new n ↔ IsUnknown cs t past j n
-site_more cs t past m j f found new e g x y n =
-    let at : f + m ≡ chain_of t m = ap (λ k. k + m) g in
+    (n : ℕ) → Contains new n ↔ IsUnknown ls t past j n
+site_more ls t past m j f found new e g x y n =
+    let at : f + m ≡ log_of t m = ap (λ k. k + m) g in
     let known : get_or past.0 m 0 ≡ entry past (m + 1) = let d : m ≡ m + 1 - 1 = omega arith in
     ap (λ k. get_or past.0 k 0) d in
     let one : Contains new n
-    ↔ (Contains found n ⊎ IsNumberAbove (setters cs t m) (chain_of t m) (entry past (m + 1)) n) =
+    ↔ (Contains found n ⊎ IsNumberAbove (setters ls t m) (log_of t m) (entry past (m + 1)) n) =
     subst (λ k. Contains new n
-    ↔ (Contains found n ⊎ IsNumberAbove (setters cs t m) (chain_of t m) k n)) known
-    (subst (λ k. Contains new n ↔ (Contains found n ⊎ IsNumberAbove (get_or cs k []) k
+    ↔ (Contains found n ⊎ IsNumberAbove (setters ls t m) (log_of t m) k n)) known
+    (subst (λ k. Contains new n ↔ (Contains found n ⊎ IsNumberAbove (get_or ls k []) k
     (get_or past.0 m 0) n)) at (y n)) in
-    let step = unknown_more cs t past m j n e in (
+    let step = unknown_more ls t past m j n e in (
       λ h. step.1 (elim (one.0 h) [ inl i ↦ inl ((x n).0 i) | inr i ↦ inr i ]),
       λ h. one.1 (elim (step.0 h) [ inl i ↦ inl ((x n).1 i) | inr i ↦ inr i ]),
     )
 
-pub all_sites : (cs : List (List Setter)) (t : Attr) (past : Clock) (m : ℕ) (g : List ℕ) → m ≡ 8
-    → ((n : ℕ) → Contains g n ↔ IsUnknown cs t past m n) → (n : ℕ)
-    → Contains g n ↔ IsUnknown cs t past 8 n
-all_sites cs t past m g e f = subst (λ k. (n : ℕ) → Contains g n ↔ IsUnknown cs t past k n) e f
+pub all_sites : (ls : List (List Setter)) (t : Attr) (past : Clock) (m : ℕ) (g : List ℕ) → m ≡ 8
+    → ((n : ℕ) → Contains g n ↔ IsUnknown ls t past m n) → (n : ℕ)
+    → Contains g n ↔ IsUnknown ls t past 8 n
+all_sites ls t past m g e f = subst (λ k. (n : ℕ) → Contains g n ↔ IsUnknown ls t past k n) e f

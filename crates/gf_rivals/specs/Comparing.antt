@@ -4,8 +4,8 @@ use Rattle.std.specs.Prelude.{Option, Some, None, slice_get}
 use Rattle.gf_ops.specs.declared.op.Op.{Op}
 use Rattle.gf_ops.specs.declared.change.Value.{Value}
 use Rattle.gf_ops.specs.ConflictTests.{value_eq}
-use Rattle.gf_rivals.specs.declared.chain.Setter.{Setter}
-use Rattle.gf_rivals.specs.Chains.{position_of}
+use Rattle.gf_rivals.specs.declared.log.Setter.{Setter}
+use Rattle.gf_rivals.specs.Logs.{position_of}
 use Rattle.gf_rivals.specs.Giving.{op_value}
 
 -- there is a value, and it is v
@@ -20,7 +20,7 @@ value_at h None = None
 
 -- the setter with the number n gives the value v
 abbrev pub number_gives : List Op → List (List Setter) → Value → ℕ → Bool
-number_gives h cs v n = is_value (value_at h (position_of cs n)) v
+number_gives h ls v n = is_value (value_at h (position_of ls n)) v
 
 -- new has what old has, and x if P holds
 abbrev pub AddsIf : Type 0 → ℕ → List ℕ → List ℕ → Type 0

@@ -5,7 +5,7 @@ use Rattle.std.specs.BTreeMap.{is_at}
 use Rattle.std.specs.Map.{lookup}
 use Rattle.gf_maximal.specs.Growing.{joined}
 use Rattle.gf_ops.specs.declared.op.Op.{Op}
-use Rattle.gf_rivals.specs.declared.chain.Setter.{Setter}
+use Rattle.gf_rivals.specs.declared.log.Setter.{Setter}
 use Rattle.gf_rivals.specs.declared.fingerprint.Fingerprint.{Fingerprint}
 use Rattle.gf_rivals.specs.Fingerprints.{fingerprint_cmp}
 use Rattle.gf_rivals.specs.Giving.{op_value, fingerprint_given}
@@ -19,17 +19,17 @@ Entries = List (Fingerprint × List ℕ)
 abbrev pub numbers_at : Entries → Fingerprint → List ℕ
 numbers_at ix p = unwrap_or (lookup (is_at (fingerprint_cmp p)) ix) []
 
--- n is the number of a setter of the chains whose value in h has the fingerprint p
-pub record HasFingerprint (h : List Op) (cs : List (List Setter)) (p : Fingerprint)
+-- n is the number of a setter of the logs whose value in h has the fingerprint p
+pub record HasFingerprint (h : List Op) (ls : List (List Setter)) (p : Fingerprint)
     (n : ℕ) : Type 0 where
   pub position : ℕ
-  pub number : IsNumber cs n position
+  pub number : IsNumber ls n position
   pub given : fingerprint_given (op_value (slice_get h position)) ≡ Some p
 
--- the index has the setters of the chains, by the fingerprints of their values in h
+-- the index has the setters of the logs, by the fingerprints of their values in h
 abbrev pub IsIndex : List Op → List (List Setter) → Entries → Type 0
-IsIndex h cs ix = (p : Fingerprint) (n : ℕ) → Contains (numbers_at ix p) n
-    ↔ HasFingerprint h cs p n
+IsIndex h ls ix = (p : Fingerprint) (n : ℕ) → Contains (numbers_at ix p) n
+    ↔ HasFingerprint h ls p n
 
 -- new has the numbers ns under the fingerprint p, and the others of old
 abbrev pub PutsNumbers : Entries → Fingerprint → List ℕ → Entries → Type 0

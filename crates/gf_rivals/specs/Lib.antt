@@ -1,7 +1,7 @@
 pub mod SetterIndexes
 pub mod Setters
-pub mod KeptChains
-pub mod Chains
+pub mod KeptLogs
+pub mod Logs
 pub mod Rivals
 pub mod Fingerprints
 pub mod Giving

@@ -10,11 +10,11 @@ use Rattle.gf_ops.specs.declared.change.Change.TheVariants.{Set}
 use Rattle.gf_ops.specs.declared.change.Value.{Value}
 use Rattle.gf_ops.specs.Attribute.{attribute_of}
 use Rattle.gf_ops.specs.DirectConflict.{DirectConflict}
-use Rattle.gf_rivals.specs.declared.chain.Setter.{Setter}
+use Rattle.gf_rivals.specs.declared.log.Setter.{Setter}
 use Rattle.gf_rivals.specs.SetterIndexes.{number_of}
 use Rattle.gf_rivals.specs.Setters.{AreSetters}
-use Rattle.gf_rivals.specs.Chains.{chain_of, setters, IsUnknown}
-use Rattle.gf_rivals.specs.declared.chains.TheConstants.{CHAINS}
+use Rattle.gf_rivals.specs.Logs.{log_of, setters, IsUnknown}
+use Rattle.gf_rivals.specs.declared.logs.TheConstants.{LOGS}
 
 -- e stands for an operation of h by the site s + 1 that sets the attribute t of o
 pub record IsSetter (h : List Op) (o : ObjectId) (t : Attr) (s : ℕ) (e : Setter) : Type 0 where
@@ -27,25 +27,25 @@ pub record IsSetter (h : List Op) (o : ObjectId) (t : Attr) (s : ℕ) (e : Sette
   pub change : op.change ≡ Set o value aim
   pub attribute : attribute_of value ≡ t
 
--- n is the number of a setter of the chains, which stands at the position q
-pub record IsNumber (cs : List (List Setter)) (n q : ℕ) : Type 0 where
+-- n is the number of a setter of the logs, which stands at the position q
+pub record IsNumber (ls : List (List Setter)) (n q : ℕ) : Type 0 where
   pub attribute : Attr
   pub site : ℕ
   pub within : site < 8
   pub index : ℕ
   pub setter : Setter
-  pub at : slice_get (setters cs attribute site) index ≡ Some setter
-  pub number : n ≡ number_of (record { chain = chain_of attribute site; index = index })
+  pub at : slice_get (setters ls attribute site) index ≡ Some setter
+  pub number : n ≡ number_of (record { log = log_of attribute site; index = index })
   pub position : setter.position ≡ q
 
--- the chains have the setters of o in h, those of each site in their order
-pub record AreChainsOf (h : List Op) (o : ObjectId) (cs : List (List Setter)) : Type 0 where
+-- the logs have the setters of o in h, those of each site in their order
+pub record AreLogsOf (h : List Op) (o : ObjectId) (ls : List (List Setter)) : Type 0 where
   pub each : (t : Attr) (s p : ℕ) (e : Setter) → s < 8
-      → slice_get (setters cs t s) p ≡ Some e → IsSetter h o t s e
+      → slice_get (setters ls t s) p ≡ Some e → IsSetter h o t s e
   pub all : (q : ℕ) (b : Op) (v : Value) (aim : List OpId) → slice_get h q ≡ Some b
-      → b.change ≡ Set o v aim → (n : ℕ) × IsNumber cs n q
-  pub ordered : (t : Attr) (s : ℕ) → s < 8 → AreSetters (setters cs t s)
-  pub count : length cs ≡ CHAINS
+      → b.change ≡ Set o v aim → (n : ℕ) × IsNumber ls n q
+  pub ordered : (t : Attr) (s : ℕ) → s < 8 → AreSetters (setters ls t s)
+  pub count : length ls ≡ LOGS
 
 -- the operation at the position q gives the value v
 pub record GivesAt (h : List Op) (o : ObjectId) (q : ℕ) (v : Value) : Type 0 where
@@ -57,14 +57,14 @@ pub record GivesAt (h : List Op) (o : ObjectId) (q : ℕ) (v : Value) : Type 0 w
 -- d are the numbers of setters that the clock does not count and that do not give the value v
 abbrev pub AreRivals : List Op → ObjectId → List (List Setter) → Value → Clock → List ℕ
     → Type 0
-AreRivals h o cs v past d = (n : ℕ) → Contains d n
-    ↔ (IsUnknown cs (attribute_of v) past 8 n
-    × ((q : ℕ) → IsNumber cs n q → ¬ (GivesAt h o q v)))
+AreRivals h o ls v past d = (n : ℕ) → Contains d n
+    ↔ (IsUnknown ls (attribute_of v) past 8 n
+    × ((q : ℕ) → IsNumber ls n q → ¬ (GivesAt h o q v)))
 
 -- n is the number of an operation of h that conflicts directly with a
-pub record IsDirect (h : List Op) (cs : List (List Setter)) (a : Op) (n : ℕ) : Type 0 where
+pub record IsDirect (h : List Op) (ls : List (List Setter)) (a : Op) (n : ℕ) : Type 0 where
   pub position : ℕ
   pub op : Op
-  pub number : IsNumber cs n position
+  pub number : IsNumber ls n position
   pub at : slice_get h position ≡ Some op
   pub direct : DirectConflict a op

@@ -1,7 +1,7 @@
 -- The operations of one site that set one attribute of an object, in their order.
 use Rattle.std.specs.Prelude.{◌≡◌, ℕ, ◌^◌, ◌<◌, ◌≤◌, List, Some, slice_get}
 use Rattle.std.specs.Prelude.{slice_index_or, length}
-use Rattle.gf_rivals.specs.declared.chain.Setter.{Setter}
+use Rattle.gf_rivals.specs.declared.log.Setter.{Setter}
 use Rattle.gf_rivals.specs.SetterIndexes.{number_of}
 
 -- the numbers of the setters at their site rise, from 1 on
@@ -18,10 +18,10 @@ pub record IsCountUpTo (ss : List Setter) (m k : ℕ) : Type 0 where
   pub above : (i : ℕ) (d : Setter) → k ≤ i → i < length ss
       → m < (slice_index_or ss i d).seq
 
--- ss are the setters of chain k, and n is the number of one that is above m at its site
+-- ss are the setters of log k, and n is the number of one that is above m at its site
 pub record IsNumberAbove (ss : List Setter) (k m n : ℕ) : Type 0 where
   pub index : ℕ
   pub setter : Setter
   pub at : slice_get ss index ≡ Some setter
   pub unknown : m < setter.seq
-  pub number : n ≡ number_of (record { chain = k; index = index })
+  pub number : n ≡ number_of (record { log = k; index = index })

@@ -2,12 +2,12 @@
 
 ghost use Rattle.std.specs.Prelude.{◌≡◌, ◌↔◌, ◌⊎◌, ◌+◌, ◌^◌, ◌<◌, true, Contains, Some};
 ghost use Rattle.std.specs.Prelude.{IfOk, IfSome, OnOk};
-ghost use Rattle.gf_maximal.specs.Growing.{meets};
+ghost use Rattle.gf_maximal.specs.Growing.{intersects};
 ghost use Rattle.gf_rivals.specs.Aimed.{AreNumbersOf, AimsAtOne};
 ghost use Rattle.gf_rivals.specs.Comparing.{AddsIf};
 ghost use Rattle.gf_rivals.specs.Naming.{AddsNamed, IsNamed, IsNamedOn};
 
-use crate::chains::Chains;
+use crate::logs::Logs;
 use gf_maximal::Numbers;
 use gf_ops::{Change, History, OpId};
 use gf_shape::OutOfMemory;
@@ -54,9 +54,9 @@ impl Aimed {
     /// Adds the number of the operation, if it aims at one of the others.
     fn join_to(&self, others: &Numbers, found: &mut Numbers) -> Result<(), OutOfMemory>
         ensures { OnOk result
-            (AddsIf (meets self.now.aim others.now ≡ true) self.now.number found.old found.new) }
+            (AddsIf (intersects self.now.aim others.now ≡ true) self.now.number found.old found.new) }
     {
-        if self.aim.meets(others) {
+        if self.aim.intersects(others) {
             found.join(self.number)
         } else {
             Ok(())
@@ -80,10 +80,10 @@ pub fn with_aimed(alloc: Global, numbers: Numbers, aimed: &[Aimed]) -> Result<Nu
 }
 
 /// The number of the setter that has this id; none where it makes an object, or is not there.
-fn number_of(history: &History, chains: &Chains, id: OpId) -> Option<usize>
-    requires { IsNamedOn history.now.ops chains.now id }
-    ensures some { IfSome result (λ n. IsNamed history.now.ops chains.now id n) }
-    ensures all { (n : _) → IsNamed history.now.ops chains.now id n → result ≡ Some n }
+fn number_of(history: &History, logs: &Logs, id: OpId) -> Option<usize>
+    requires { IsNamedOn history.now.ops logs.now id }
+    ensures some { IfSome result (λ n. IsNamed history.now.ops logs.now id n) }
+    ensures all { (n : _) → IsNamed history.now.ops logs.now id n → result ≡ Some n }
     ensures bound { IfSome result (λ n. n + 1 < 2 ^ 64) }
 {
     // The clause of `ops` says that the history is valid.
@@ -91,21 +91,21 @@ fn number_of(history: &History, chains: &Chains, id: OpId) -> Option<usize>
     let op = history.get(id)?;
     match &op.change {
         Change::Create(_) => None,
-        Change::Set { value, .. } => chains.number(value.attribute(), id),
+        Change::Set { value, .. } => logs.number(value.attribute(), id),
     }
 }
 
 /// Adds the number of the setter that has this id.
 fn add_named(
     history: &History,
-    chains: &Chains,
+    logs: &Logs,
     id: OpId,
     numbers: &mut Numbers,
 ) -> Result<(), OutOfMemory>
-    requires { IsNamedOn history.now.ops chains.now id }
-    ensures { OnOk result (AddsNamed history.now.ops chains.now id numbers.old numbers.new) }
+    requires { IsNamedOn history.now.ops logs.now id }
+    ensures { OnOk result (AddsNamed history.now.ops logs.now id numbers.old numbers.new) }
 {
-    match number_of(history, chains, id) {
+    match number_of(history, logs, id) {
         Some(number) => numbers.join(number),
         None => Ok(()),
     }
@@ -115,15 +115,15 @@ fn add_named(
 pub fn numbers_of(
     alloc: Global,
     history: &History,
-    chains: &Chains,
+    logs: &Logs,
     ids: &[OpId],
 ) -> Result<Numbers, OutOfMemory>
-    requires { (id : _) → Contains ids.now id → IsNamedOn history.now.ops chains.now id }
-    ensures { IfOk result (λ found. AreNumbersOf history.now.ops chains.now ids.now found) }
+    requires { (id : _) → Contains ids.now id → IsNamedOn history.now.ops logs.now id }
+    ensures { IfOk result (λ found. AreNumbersOf history.now.ops logs.now ids.now found) }
 {
     let mut numbers = Numbers::new(alloc);
     for id in ids {
-        add_named(history, chains, *id, &mut numbers)?;
+        add_named(history, logs, *id, &mut numbers)?;
     }
     Ok(numbers)
 }

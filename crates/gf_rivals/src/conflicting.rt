@@ -2,12 +2,12 @@
 
 ghost use Rattle.std.specs.Prelude.{◌≡◌, ◌↔◌, true, Contains, IfOk, OnOk};
 ghost use Rattle.gf_ops.specs.Attribute.{attribute_of};
-ghost use Rattle.gf_rivals.specs.Chains.{IsUnknown};
+ghost use Rattle.gf_rivals.specs.Logs.{IsUnknown};
 ghost use Rattle.gf_rivals.specs.Comparing.{number_gives, AddsIf};
 ghost use Rattle.gf_rivals.specs.Indexes.{IsIndex};
-ghost use Rattle.gf_rivals.specs.Rivals.{AreChainsOf, AreRivals};
+ghost use Rattle.gf_rivals.specs.Rivals.{AreLogsOf, AreRivals};
 
-use crate::chains::Chains;
+use crate::logs::Logs;
 use crate::fingerprint::{fingerprint_of, has_own_fingerprint};
 use crate::giving::number_gives;
 use crate::index::Index;
@@ -19,16 +19,16 @@ use std::alloc::Global;
 /// Adds the number, if its setter gives the value.
 fn add_giving(
     ops: &[Op],
-    chains: &Chains,
+    logs: &Logs,
     value: &Value,
     number: usize,
     some: &mut Numbers,
 ) -> Result<(), OutOfMemory>
     ensures { OnOk result
-        (AddsIf (number_gives ops.now chains.now value.now number ≡ true) number
+        (AddsIf (number_gives ops.now logs.now value.now number ≡ true) number
         some.old some.new) }
 {
-    if number_gives(ops, chains, value, number) {
+    if number_gives(ops, logs, value, number) {
         some.join(number)
     } else {
         Ok(())
@@ -39,17 +39,17 @@ fn add_giving(
 fn giving(
     alloc: Global,
     ops: &[Op],
-    chains: &Chains,
+    logs: &Logs,
     value: &Value,
     numbers: &Numbers,
 ) -> Result<Numbers, OutOfMemory>
     ensures { IfOk result (λ some. (n : _) → Contains some n
-        ↔ (Contains numbers.now n × (number_gives ops.now chains.now value.now n ≡ true))) }
+        ↔ (Contains numbers.now n × (number_gives ops.now logs.now value.now n ≡ true))) }
 {
     let all = numbers.to_vec(alloc)?;
     let mut some = Numbers::new(alloc);
     for number in &all {
-        add_giving(ops, chains, value, *number, &mut some)?;
+        add_giving(ops, logs, value, *number, &mut some)?;
     }
     Ok(some)
 }
@@ -59,16 +59,16 @@ fn giving(
 pub fn rivals(
     alloc: Global,
     history: &History,
-    chains: &Chains,
+    logs: &Logs,
     index: &Index,
     value: &Value,
     unknown: Numbers,
 ) -> Result<Numbers, OutOfMemory>
     ensures { IfOk result (λ found. (o : _) (past : _)
-        → AreChainsOf history.now.ops o chains.now
-        → IsIndex history.now.ops chains.now index.now
-        → ((n : _) → Contains unknown n ↔ IsUnknown chains.now (attribute_of value.now) past 8 n)
-        → AreRivals history.now.ops o chains.now value.now past found) }
+        → AreLogsOf history.now.ops o logs.now
+        → IsIndex history.now.ops logs.now index.now
+        → ((n : _) → Contains unknown n ↔ IsUnknown logs.now (attribute_of value.now) past 8 n)
+        → AreRivals history.now.ops o logs.now value.now past found) }
 {
     let Some(same) = index.get(fingerprint_of(value)) else {
         return Ok(unknown);
@@ -77,6 +77,6 @@ pub fn rivals(
         return unknown.without(alloc, same);
     }
     let may = unknown.common(alloc, same)?;
-    let equal = giving(alloc, history.ops(), chains, value, &may)?;
+    let equal = giving(alloc, history.ops(), logs, value, &may)?;
     unknown.without(alloc, &equal)
 }

@@ -6,7 +6,7 @@ ghost use Rattle.gf_rivals.specs.Comparing.{is_value, number_gives};
 ghost use Rattle.gf_rivals.specs.Giving.{op_value};
 ghost use Rattle.gf_rivals.specs.declared.setter_index.TheConstants.{FIRST_ABOVE};
 
-use crate::chains::Chains;
+use crate::logs::Logs;
 use gf_ops::{Change, Op, Value};
 
 /// Whether two values are one value of one attribute.
@@ -48,11 +48,11 @@ fn is_value(value: Option<&Value>, other: &Value) -> bool
 }
 
 /// Whether the setter with this number gives the value.
-pub(crate) fn number_gives(ops: &[Op], chains: &Chains, value: &Value, number: usize) -> bool
-    ensures value { result ≡ number_gives ops.now chains.now value.now number }
+pub(crate) fn number_gives(ops: &[Op], logs: &Logs, value: &Value, number: usize) -> bool
+    ensures value { result ≡ number_gives ops.now logs.now value.now number }
     ensures bound { IsTrue result → number < FIRST_ABOVE }
 {
-    match chains.position(number) {
+    match logs.position(number) {
         Some(position) => is_value(op_value(ops.get(position)), value),
         None => false,
     }

@@ -7,11 +7,11 @@ ghost use Rattle.std.specs.Map.{lookup};
 ghost use Rattle.gf_rivals.specs.Fingerprints.{fingerprint_cmp, fingerprint_of};
 ghost use Rattle.gf_rivals.specs.Giving.{op_value, fingerprint_given};
 ghost use Rattle.gf_rivals.specs.Indexes.{IsIndex, PutsNumber, PutsNumbers};
-ghost use Rattle.gf_rivals.specs.Indexing.{PutsGiven, Lists, ListsChain};
-ghost use Rattle.gf_rivals.specs.declared.chains.TheConstants.{CHAINS};
+ghost use Rattle.gf_rivals.specs.Indexing.{PutsGiven, Lists, ListsLog};
+ghost use Rattle.gf_rivals.specs.declared.logs.TheConstants.{LOGS};
 
-use crate::chain::Setter;
-use crate::chains::{CHAINS, Chains};
+use crate::log::Setter;
+use crate::logs::{LOGS, Logs};
 use crate::fingerprint::{Fingerprint, fingerprint_of};
 use crate::giving::op_value;
 use crate::setter_index::SetterIndex;
@@ -25,7 +25,7 @@ use std::marker::Model;
 type NumbersByFingerprint = BTreeMap<Fingerprint, Numbers>;
 
 /// For each fingerprint of a value the numbers of the setters with such a value, none without a
-/// setter. An index can always be made again from the history and the chains.
+/// setter. An index can always be made again from the history and the logs.
 #[derive(Debug, Drop)]
 pub struct Index {
     numbers: NumbersByFingerprint,
@@ -100,53 +100,53 @@ fn add_setter(
     }
 }
 
-/// Adds the setters of the chain with this index.
+/// Adds the setters of the log with this index.
 fn add_setters(
     alloc: Global,
     ops: &[Op],
     setters: &[Setter],
-    chain: usize,
+    log: usize,
     numbers: &mut NumbersByFingerprint,
 ) -> Result<(), OutOfMemory>
-    requires chain { chain < CHAINS }
+    requires log { log < LOGS }
     requires short { length setters.now < 2 ^ 32 }
-    ensures { OnOk result (Lists ops.now setters.now chain (length setters.now)
+    ensures { OnOk result (Lists ops.now setters.now log (length setters.now)
         numbers.old.entries numbers.new.entries) }
 {
     for (index, setter) in setters.iter().enumerate() {
-        let number = SetterIndex { chain, index }.number();
+        let number = SetterIndex { log, index }.number();
         add_setter(alloc, ops, setter.position, number, numbers)?;
     }
     Ok(())
 }
 
-/// Adds the setters of the chain with this index, if it is kept.
-fn add_chain(
+/// Adds the setters of the log with this index, if it is kept.
+fn add_log(
     alloc: Global,
     ops: &[Op],
-    chains: &Chains,
+    logs: &Logs,
     index: usize,
     numbers: &mut NumbersByFingerprint,
 ) -> Result<(), OutOfMemory>
-    requires { index < CHAINS }
+    requires { index < LOGS }
     ensures { OnOk result
-        (ListsChain ops.now chains.now index numbers.old.entries numbers.new.entries) }
+        (ListsLog ops.now logs.now index numbers.old.entries numbers.new.entries) }
 {
-    match chains.chain(index) {
-        Some(chain) => add_setters(alloc, ops, chain.setters(), index, numbers),
+    match logs.log(index) {
+        Some(log) => add_setters(alloc, ops, log.setters(), index, numbers),
         None => Ok(()),
     }
 }
 
 impl Index {
-    /// The index of all setters of the chains, whose values stand in the history.
-    pub fn of(alloc: Global, history: &History, chains: &Chains) -> Result<Index, OutOfMemory>
-        ensures { IfOk result (λ index. IsIndex history.now.ops chains.now index) }
+    /// The index of all setters of the logs, whose values stand in the history.
+    pub fn of(alloc: Global, history: &History, logs: &Logs) -> Result<Index, OutOfMemory>
+        ensures { IfOk result (λ index. IsIndex history.now.ops logs.now index) }
     {
         let ops = history.ops();
         let mut numbers = BTreeMap::new(alloc);
-        for index in 0..CHAINS {
-            add_chain(alloc, ops, chains, index, &mut numbers)?;
+        for index in 0..LOGS {
+            add_log(alloc, ops, logs, index, &mut numbers)?;
         }
         Ok(Index { numbers })
     }

@@ -1,9 +1,9 @@
 //! The setters of an object's attributes, and which of them conflict with the next operation.
 //!
-//! A setter is known by its chain, which is that of its attribute and site, and by its index there.
+//! A setter is known by its log, which is that of its attribute and site, and by its index there.
 //! A set of setters keeps each as one number below [`FIRST_ABOVE`].
 //!
-//! - [`Chains`]: the setters by attribute and site, each with a number.
+//! - [`Logs`]: the setters by attribute and site, each with a number.
 //! - [`Index`]: the numbers of the setters by the values that they give.
 //! - [`rivals`]: the numbers of the setters that conflict with the next operation.
 //! - [`conflicting_with`]: the numbers of the setters that conflict with one of some others.
@@ -11,8 +11,8 @@
 #![tactic(auto)]
 
 mod aims;
-mod chain;
-mod chains;
+mod log;
+mod logs;
 mod conflicting;
 mod fingerprint;
 mod giving;
@@ -22,7 +22,7 @@ mod members;
 mod setter_index;
 
 pub use aims::{Aimed, numbers_of, with_aimed};
-pub use chains::Chains;
+pub use logs::Logs;
 pub use conflicting::rivals;
 pub use index::Index;
 pub use members::conflicting_with;

@@ -7,12 +7,12 @@ ghost use Rattle.gf_ops.specs.Limits.{IsInRange};
 ghost use Rattle.gf_rivals.specs.Aimed.{ConflictDirectly, ConflictsWithOne, op_of};
 ghost use Rattle.gf_rivals.specs.Comparing.{AddsIf};
 ghost use Rattle.gf_rivals.specs.Members.{AreFalling, AreMembers, AreMembersOf, CanConflict};
-ghost use Rattle.gf_rivals.specs.Members.{IsOfChain, IsOther, ListsSetters, value_of};
-ghost use Rattle.gf_rivals.specs.Rivals.{AreChainsOf};
+ghost use Rattle.gf_rivals.specs.Members.{IsOfLog, IsOther, ListsSetters, value_of};
+ghost use Rattle.gf_rivals.specs.Rivals.{AreLogsOf};
 ghost use Rattle.gf_rivals.specs.SetterIndexes.{HasNumber};
 ghost use Rattle.gf_rivals.specs.declared.setter_index.TheConstants.{FIRST_ABOVE};
 
-use crate::chains::Chains;
+use crate::logs::Logs;
 use crate::giving::{number_gives, op_value};
 use crate::setter_index::SetterIndex;
 use gf_maximal::Numbers;
@@ -20,7 +20,7 @@ use gf_ops::{History, Op, Value, direct_conflict};
 use gf_shape::OutOfMemory;
 use std::alloc::Global;
 
-/// A setter by its number, and the next one of its chain that gives another value.
+/// A setter by its number, and the next one of its log that gives another value.
 #[derive(Clone, Copy, Debug)]
 struct Member {
     number: usize,
@@ -28,23 +28,23 @@ struct Member {
 }
 
 /// The setter that has this number.
-fn op_of<'a>(history: &'a History, chains: &Chains, number: usize) -> Option<&'a Op>
-    ensures value { option_copied result ≡ op_of history.now.ops chains.now number }
+fn op_of<'a>(history: &'a History, logs: &Logs, number: usize) -> Option<&'a Op>
+    ensures value { option_copied result ≡ op_of history.now.ops logs.now number }
     ensures in_range { IfSome result (λ op. IsInRange op.now) }
     ensures bound { IfSome result (λ _. number < FIRST_ABOVE) }
 {
-    let position = chains.position(number)?;
+    let position = logs.position(number)?;
     history.ops().get(position)
 }
 
 /// Whether the setters with these numbers conflict directly.
-fn conflict(history: &History, chains: &Chains, number: usize, other: usize) -> bool
-    ensures value { IsTrue result ↔ ConflictDirectly history.now.ops chains.now number other }
+fn conflict(history: &History, logs: &Logs, number: usize, other: usize) -> bool
+    ensures value { IsTrue result ↔ ConflictDirectly history.now.ops logs.now number other }
     ensures bound { IsTrue result → other < FIRST_ABOVE }
 {
     match (
-        op_of(history, chains, number),
-        op_of(history, chains, other),
+        op_of(history, logs, number),
+        op_of(history, logs, other),
     ) {
         (Some(op), Some(other)) => direct_conflict(op, other),
         _ => false,
@@ -52,38 +52,38 @@ fn conflict(history: &History, chains: &Chains, number: usize, other: usize) -> 
 }
 
 /// The value of the setter with this number.
-fn value_of<'a>(history: &'a History, chains: &Chains, number: usize) -> Option<&'a Value>
-    ensures { option_copied result ≡ value_of history.now.ops chains.now number }
+fn value_of<'a>(history: &'a History, logs: &Logs, number: usize) -> Option<&'a Value>
+    ensures { option_copied result ≡ value_of history.now.ops logs.now number }
 {
-    op_value(op_of(history, chains, number))
+    op_value(op_of(history, logs, number))
 }
 
 /// Whether the setters with these numbers give different values.
-fn give_others(history: &History, chains: &Chains, number: usize, other: usize) -> bool
-    ensures { IsTrue result ↔ (value_of history.now.ops chains.now number
-        ≢ value_of history.now.ops chains.now other) }
+fn give_others(history: &History, logs: &Logs, number: usize, other: usize) -> bool
+    ensures { IsTrue result ↔ (value_of history.now.ops logs.now number
+        ≢ value_of history.now.ops logs.now other) }
 {
-    match value_of(history, chains, number) {
-        Some(value) => !number_gives(history.ops(), chains, value, other),
-        None => value_of(history, chains, other).is_some(),
+    match value_of(history, logs, number) {
+        Some(value) => !number_gives(history.ops(), logs, value, other),
+        None => value_of(history, logs, other).is_some(),
     }
 }
 
-/// The next setter of the chain of the number that gives another value, where `next` is the next
+/// The next setter of the log of the number that gives another value, where `next` is the next
 /// member.
 fn other_of(
     history: &History,
-    chains: &Chains,
+    logs: &Logs,
     number: usize,
     next: Option<&Member>,
 ) -> Option<usize>
-    ensures { IsOther history.now.ops chains.now number (option_copied next.entry) result }
+    ensures { IsOther history.now.ops logs.now number (option_copied next.entry) result }
 {
     let next = next?;
-    if SetterIndex::of(next.number).chain != SetterIndex::of(number).chain {
+    if SetterIndex::of(next.number).log != SetterIndex::of(number).log {
         return None;
     }
-    if give_others(history, chains, number, next.number) {
+    if give_others(history, logs, number, next.number) {
         Some(next.number)
     } else {
         next.other
@@ -94,28 +94,28 @@ fn other_of(
 fn members_of(
     alloc: Global,
     history: &History,
-    chains: &Chains,
+    logs: &Logs,
     numbers: &[usize],
 ) -> Result<Vec<Member>, OutOfMemory>
     requires { IsRising numbers.now }
     ensures { IfOk result (λ members.
-        AreMembers history.now.ops chains.now numbers.now members.items) }
+        AreMembers history.now.ops logs.now numbers.now members.items) }
 {
     let mut members = Vec::new(alloc);
     for behind in 0..numbers.len() {
         let number = numbers[numbers.len() - 1 - behind];
-        let other = other_of(history, chains, number, members.last());
+        let other = other_of(history, logs, number, members.last());
         members.push(Member { number, other })?;
     }
     Ok(members)
 }
 
-/// The first of the members from `start` on, if it is of the same chain.
+/// The first of the members from `start` on, if it is of the same log.
 fn first_from(members: &[Member], start: SetterIndex) -> Option<&Member>
     requires members { AreFalling members.now }
     requires start { HasNumber start }
-    ensures some { IfSome result (λ first. IsOfChain members.now start first.now) }
-    ensures least { (m : _) → IsOfChain members.now start m
+    ensures some { IfSome result (λ first. IsOfLog members.now start first.now) }
+    ensures least { (m : _) → IsOfLog members.now start m
         → (f : _) × (option_copied result ≡ Some f) × (f.number ≤ m.number) }
 {
     let number = start.number();
@@ -123,7 +123,7 @@ fn first_from(members: &[Member], start: SetterIndex) -> Option<&Member>
         .partition_point(|member| member.number >= number)
         .checked_sub(1)?;
     let first = members.get(index)?;
-    if SetterIndex::of(first.number).chain == start.chain {
+    if SetterIndex::of(first.number).log == start.log {
         Some(first)
     } else {
         None
@@ -134,49 +134,49 @@ fn first_from(members: &[Member], start: SetterIndex) -> Option<&Member>
 /// directly with the setter.
 fn conflicts_from(
     history: &History,
-    chains: &Chains,
+    logs: &Logs,
     members: &[Member],
     start: SetterIndex,
     number: usize,
 ) -> bool
     requires members { AreFalling members.now }
     requires start { HasNumber start }
-    ensures sound { (us : _) → AreMembers history.now.ops chains.now us members.now
-        → IsTrue result → ConflictsWithOne history.now.ops chains.now us number }
+    ensures sound { (us : _) → AreMembers history.now.ops logs.now us members.now
+        → IsTrue result → ConflictsWithOne history.now.ops logs.now us number }
     ensures complete { (o : _) (us : _) (y : _)
-        → CanConflict history.now.ops o chains.now us members.now start number y → IsTrue result }
+        → CanConflict history.now.ops o logs.now us members.now start number y → IsTrue result }
     ensures bound { IsTrue result → number < FIRST_ABOVE }
 {
     let Some(first) = first_from(members, start) else {
         return false;
     };
-    if conflict(history, chains, first.number, number) {
+    if conflict(history, logs, first.number, number) {
         return true;
     }
     match first.other {
-        Some(other) => conflict(history, chains, other, number),
+        Some(other) => conflict(history, logs, other, number),
         None => false,
     }
 }
 
 /// Whether one of the members conflicts directly with the setter.
-fn conflicts_with_one(history: &History, chains: &Chains, members: &[Member], number: usize) -> bool
+fn conflicts_with_one(history: &History, logs: &Logs, members: &[Member], number: usize) -> bool
     requires { AreFalling members.now }
-    ensures value { (o : _) (us : _) → AreMembersOf history.now.ops o chains.now us members.now
-        → (IsTrue result ↔ ConflictsWithOne history.now.ops chains.now us number) }
+    ensures value { (o : _) (us : _) → AreMembersOf history.now.ops o logs.now us members.now
+        → (IsTrue result ↔ ConflictsWithOne history.now.ops logs.now us number) }
     ensures bound { IsTrue result → number < FIRST_ABOVE }
 {
     // The clause of `ops` says that the history is valid.
     let _ = history.ops();
-    let Some(op) = op_of(history, chains, number) else {
+    let Some(op) = op_of(history, logs, number) else {
         return false;
     };
     let Some(value) = op_value(Some(op)) else {
         return false;
     };
     for site in 0..8 {
-        let start = chains.first_unknown(value.attribute(), site, &op.past);
-        if conflicts_from(history, chains, members, start, number) {
+        let start = logs.first_unknown(value.attribute(), site, &op.past);
+        if conflicts_from(history, logs, members, start, number) {
             return true;
         }
     }
@@ -186,18 +186,18 @@ fn conflicts_with_one(history: &History, chains: &Chains, members: &[Member], nu
 /// Adds the number, if one of the members conflicts directly with its setter.
 fn add_conflicting(
     history: &History,
-    chains: &Chains,
+    logs: &Logs,
     members: &[Member],
     number: usize,
     found: &mut Numbers,
 ) -> Result<(), OutOfMemory>
     requires { AreFalling members.now }
     ensures { OnOk result ((o : _) (us : _)
-        → AreMembersOf history.now.ops o chains.now us members.now
-        → AddsIf (ConflictsWithOne history.now.ops chains.now us number)
+        → AreMembersOf history.now.ops o logs.now us members.now
+        → AddsIf (ConflictsWithOne history.now.ops logs.now us number)
         number found.old found.new) }
 {
-    if conflicts_with_one(history, chains, members, number) {
+    if conflicts_with_one(history, logs, members, number) {
         found.join(number)
     } else {
         Ok(())
@@ -209,19 +209,19 @@ fn add_conflicting(
 pub fn conflicting_with(
     alloc: Global,
     history: &History,
-    chains: &Chains,
+    logs: &Logs,
     others: &Numbers,
     among: &Numbers,
 ) -> Result<Numbers, OutOfMemory>
-    ensures { IfOk result (λ found. (o : _) → AreChainsOf history.now.ops o chains.now
-        → ListsSetters chains.now others.now → (n : _) → Contains found n
-        ↔ (Contains among.now n × ConflictsWithOne history.now.ops chains.now others.now n)) }
+    ensures { IfOk result (λ found. (o : _) → AreLogsOf history.now.ops o logs.now
+        → ListsSetters logs.now others.now → (n : _) → Contains found n
+        ↔ (Contains among.now n × ConflictsWithOne history.now.ops logs.now others.now n)) }
 {
     let all = among.to_vec(alloc)?;
-    let members = members_of(alloc, history, chains, &others.to_vec(alloc)?)?;
+    let members = members_of(alloc, history, logs, &others.to_vec(alloc)?)?;
     let mut found = Numbers::new(alloc);
     for number in &all {
-        add_conflicting(history, chains, &members, *number, &mut found)?;
+        add_conflicting(history, logs, &members, *number, &mut found)?;
     }
     Ok(found)
 }

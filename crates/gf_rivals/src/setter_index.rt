@@ -1,22 +1,22 @@
-//! Which setter of an object, by its chain and its index there, and the number that a set keeps
+//! Which setter of an object, by its log and its index there, and the number that a set keeps
 //! for it. Nowhere else is a number made of the two, or taken apart.
 
 ghost use Rattle.std.specs.Prelude.{◌≡◌, ◌<◌};
 ghost use Rattle.gf_rivals.specs.SetterIndexes.{HasNumber, number_of, setter_of};
 ghost use Rattle.gf_rivals.specs.declared.setter_index.TheConstants.{FIRST_ABOVE};
 
-use crate::chains::CHAINS;
+use crate::logs::LOGS;
 
-/// How many numbers a set keeps for one chain.
+/// How many numbers a set keeps for one log.
 const BLOCK: usize = 4_294_967_296;
 
 /// The first number above those of all setters.
-pub const FIRST_ABOVE: usize = CHAINS * BLOCK;
+pub const FIRST_ABOVE: usize = LOGS * BLOCK;
 
-/// Which setter of an object: its chain, and its index there.
+/// Which setter of an object: its log, and its index there.
 #[derive(Clone, Copy, Debug)]
 pub(crate) struct SetterIndex {
-    pub chain: usize,
+    pub log: usize,
     pub index: usize,
 }
 
@@ -27,7 +27,7 @@ impl SetterIndex {
         ensures value { result ≡ number_of self }
         ensures bound { result < FIRST_ABOVE }
     {
-        self.chain * BLOCK + self.index
+        self.log * BLOCK + self.index
     }
 
     /// The setter that a set keeps under the number.
@@ -35,7 +35,7 @@ impl SetterIndex {
         ensures { result ≡ setter_of number }
     {
         SetterIndex {
-            chain: number / BLOCK,
+            log: number / BLOCK,
             index: number % BLOCK,
         }
     }

@@ -4,6 +4,6 @@ pub mod StateLemmas
 pub mod StandsLemmas
 pub mod FittingLemmas
 pub mod ListedLemmas
-pub mod MetLemmas
+pub mod RivalOfAimLemmas
 pub mod CountingLemmas
 pub mod PositionLemmas

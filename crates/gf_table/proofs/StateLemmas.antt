@@ -28,14 +28,14 @@ use Rattle.gf_components.proofs.ComponentLemmas.{components_after}
 use Rattle.gf_groups.specs.Growing.{conflict_at}
 use Rattle.gf_groups.proofs.OnPositionLemmas.{conflict_from, contained_at}
 use Rattle.gf_groups.proofs.TableLemmas.{conflict_at_test}
-use Rattle.gf_rivals.specs.declared.chain.Setter.{Setter}
+use Rattle.gf_rivals.specs.declared.log.Setter.{Setter}
 use Rattle.gf_rivals.specs.declared.fingerprint.Fingerprint.{Fingerprint}
 use Rattle.gf_rivals.specs.Fingerprints.{fingerprint_of}
 use Rattle.gf_rivals.specs.Indexes.{IsIndex, PutsNumber}
 use Rattle.gf_ops.specs.declared.op.Clock.{Clock}
-use Rattle.gf_rivals.specs.Chains.{IsUnknown, chain_of, no_chains, position_of, setters}
-use Rattle.gf_rivals.specs.Chains.{with_setter}
-use Rattle.gf_rivals.specs.Rivals.{AreRivals, IsNumber, AreChainsOf}
+use Rattle.gf_rivals.specs.Logs.{IsUnknown, log_of, no_logs, position_of, setters}
+use Rattle.gf_rivals.specs.Logs.{with_setter}
+use Rattle.gf_rivals.specs.Rivals.{AreRivals, IsNumber, AreLogsOf}
 use Rattle.gf_rivals.specs.Aimed.{AimedState, AimsAtOne, AreAimed, AreNumbersOf, ConflictDirectly}
 use Rattle.gf_rivals.specs.Aimed.{IsConflict as ConflictsAt}
 use Rattle.gf_rivals.proofs.AimRivalLemmas.{aim_met, aims_conflict, conflict_numbers, maker_calm}
@@ -44,14 +44,14 @@ use Rattle.gf_components.proofs.ReachLemmas.{conflict_reached}
 use Rattle.gf_ops.proofs.ConflictLemmas.{conflict_direct}
 use Rattle.gf_rivals.proofs.NumberLemmas.{number_below, number_from, position_is, position_none}
 use Rattle.gf_rivals.proofs.NumberLemmas as numbers
-use Rattle.gf_rivals.proofs.SetterIndexLemmas.{chain_number}
+use Rattle.gf_rivals.proofs.SetterIndexLemmas.{log_number}
 use Rattle.gf_rivals.proofs.RivalLemmas.{rivals_conflict}
-use Rattle.gf_rivals.proofs.ChainLemmas.{behind_all, empty_chains, index_other, index_setter}
-use Rattle.gf_rivals.proofs.ChainLemmas.{last_number, number_cases, numbered, chains_other}
-use Rattle.gf_rivals.proofs.ChainLemmas.{chains_setter}
+use Rattle.gf_rivals.proofs.LogLemmas.{behind_all, empty_logs, index_other, index_setter}
+use Rattle.gf_rivals.proofs.LogLemmas.{last_number, number_cases, numbered, logs_other}
+use Rattle.gf_rivals.proofs.LogLemmas.{logs_setter}
 use Rattle.gf_table.specs.ObjectState.{ObjectState, made, maker_number, number_conflict}
 use Rattle.gf_table.specs.ObjectState.{position_in}
-use Rattle.gf_table.specs.Standing.{IsMaker, IsMetByAim, IsStateOf, with_aim}
+use Rattle.gf_table.specs.Standing.{IsMaker, IsRivalOfAim, IsStateOf, with_aim}
 use Rattle.gf_table.proofs.LongerLemmas.{got_before, got_cases, got_last, last_from, last_with}
 use Rattle.gf_table.proofs.LongerLemmas.{same_conflict}
 
@@ -75,28 +75,28 @@ made_by : (c : Change) (k : Kind) → made_kind c ≡ Some k → (s : Start) × 
 made_by (Create start) k e = (start, refl)
 made_by (Set o v aim) k e = absurd cc
 
--- the creation stands in no chain
-pub maker_position : (h : List Op) (o : ObjectId) (t : ObjectState) → AreChainsOf h o t.chains
+-- the creation stands in no log
+pub maker_position : (h : List Op) (o : ObjectId) (t : ObjectState) → AreLogsOf h o t.logs
     → position_in t maker_number ≡ t.maker
-maker_position h o t chained = ap (λ r. unwrap_or r t.maker)
-    (position_none h o t.chains chained maker_number
-    (λ q k. let l = number_below h o t.chains chained maker_number q k in omega (arith, l)))
+maker_position h o t logs = ap (λ r. unwrap_or r t.maker)
+    (position_none h o t.logs logs maker_number
+    (λ q k. let l = number_below h o t.logs logs maker_number q k in omega (arith, l)))
 
 -- a number stands for its setter's position
-pub number_at : (h : List Op) (o : ObjectId) (t : ObjectState) → AreChainsOf h o t.chains
-    → (n q : ℕ) → IsNumber t.chains n q → position_in t n ≡ q
-number_at h o t chained n q k = ap (λ r. unwrap_or r t.maker)
-    (position_is h o t.chains chained n q k)
+pub number_at : (h : List Op) (o : ObjectId) (t : ObjectState) → AreLogsOf h o t.logs
+    → (n q : ℕ) → IsNumber t.logs n q → position_in t n ≡ q
+number_at h o t logs n q k = ap (λ r. unwrap_or r t.maker)
+    (position_is h o t.logs logs n q k)
 
 module _ (h : List Op) (o : ObjectId) (t : ObjectState) (s : IsStateOf h o t) where
-  pub setter_at : (n q : ℕ) → IsNumber t.chains n q → (op : Op) × (slice_get h q ≡ Some op)
+  pub setter_at : (n q : ℕ) → IsNumber t.logs n q → (op : Op) × (slice_get h q ≡ Some op)
       × (v : Value) × (aim : List OpId) × (op.change ≡ Set o v aim)
   setter_at n q k =
-      let i = s.chained.each k.attribute k.site k.index k.setter k.within k.at in
+      let i = s.logs.each k.attribute k.site k.index k.setter k.within k.at in
       (i.op, subst (λ z. slice_get h z ≡ Some i.op) k.position i.at, i.value, i.aim, i.change)
 
-  number_within : (n q : ℕ) → IsNumber t.chains n q → q < length h
-  number_within n q k = numbers.number_within h o t.chains s.chained n q k
+  number_within : (n q : ℕ) → IsNumber t.logs n q → q < length h
+  number_within n q k = numbers.number_within h o t.logs s.logs n q k
 
   maker_within : t.maker < length h
   maker_within = slice_get_within h t.maker s.maker.op s.maker.at
@@ -105,20 +105,20 @@ module _ (h : List Op) (o : ObjectId) (t : ObjectState) (s : IsStateOf h o t) wh
   pub position_within : (n : ℕ) → Contains (whole t.components).all n → position_in t n < length h
   position_within n i = elim ((s.exactly n).0 i) [
     | inl e ↦ subst (λ z. position_in t z < length h) (sym e)
-        (subst (λ z. z < length h) (sym (maker_position h o t s.chained)) maker_within)
-    | inr w ↦ subst (λ z. z < length h) (sym (number_at h o t s.chained n w.0 w.1))
+        (subst (λ z. z < length h) (sym (maker_position h o t s.logs)) maker_within)
+    | inr w ↦ subst (λ z. z < length h) (sym (number_at h o t s.logs n w.0 w.1))
         (number_within n w.0 w.1)
   ]
 
   -- no number leads out of the history
   pub all_within : (n : ℕ) → position_in t n < length h
-  all_within n = by_case (position_of t.chains n) refl
+  all_within n = by_case (position_of t.logs n) refl
     where
-      by_case : (r : Option ℕ) → position_of t.chains n ≡ r → unwrap_or r t.maker < length h
-      by_case (Some q) e = number_within n q (number_from h o t.chains s.chained n q e)
+      by_case : (r : Option ℕ) → position_of t.logs n ≡ r → unwrap_or r t.maker < length h
+      by_case (Some q) e = number_within n q (number_from h o t.logs s.logs n q e)
       by_case None e = maker_within
 
-  not_set : (q : ℕ) (n : ℕ) → IsNumber t.chains n q → t.maker ≢ q
+  not_set : (q : ℕ) (n : ℕ) → IsNumber t.logs n q → t.maker ≢ q
   not_set q n k e =
       let w = setter_at n q k in
       let one : s.maker.op ≡ w.0 = let x = s.maker.at in let y = w.1 in
@@ -135,16 +135,16 @@ module _ (h : List Op) (o : ObjectId) (t : ObjectState) (s : IsStateOf h o t) wh
   one_number i j a b e = elim ((s.exactly i).0 a) [
     | inl x ↦ elim ((s.exactly j).0 b) [
       | inl y ↦ x ∙ sym y
-      | inr w ↦ absurd (not_set w.0 j w.1 (sym (maker_position h o t s.chained)
-          ∙ (ap (position_in t) (sym x) ∙ (e ∙ number_at h o t s.chained j w.0 w.1))))
+      | inr w ↦ absurd (not_set w.0 j w.1 (sym (maker_position h o t s.logs)
+          ∙ (ap (position_in t) (sym x) ∙ (e ∙ number_at h o t s.logs j w.0 w.1))))
     ]
     | inr v ↦ elim ((s.exactly j).0 b) [
-      | inl y ↦ absurd (not_set v.0 i v.1 (sym (maker_position h o t s.chained)
-          ∙ (ap (position_in t) (sym y) ∙ (sym e ∙ number_at h o t s.chained i v.0 v.1))))
+      | inl y ↦ absurd (not_set v.0 i v.1 (sym (maker_position h o t s.logs)
+          ∙ (ap (position_in t) (sym y) ∙ (sym e ∙ number_at h o t s.logs i v.0 v.1))))
       | inr w ↦
-          let q : v.0 ≡ w.0 = sym (number_at h o t s.chained i v.0 v.1)
-          ∙ (e ∙ number_at h o t s.chained j w.0 w.1) in
-          numbers.one_number h o t.chains s.chained i j w.0 (subst (IsNumber t.chains i) q v.1) w.1
+          let q : v.0 ≡ w.0 = sym (number_at h o t s.logs i v.0 v.1)
+          ∙ (e ∙ number_at h o t s.logs j w.0 w.1) in
+          numbers.one_number h o t.logs s.logs i j w.0 (subst (IsNumber t.logs i) q v.1) w.1
     ]
   ]
 
@@ -166,9 +166,9 @@ module _ (h : List Op) (o : ObjectId) (t : ObjectState) (s : IsStateOf h o t) wh
         → ((v : Value) (aim : List OpId) → a.change ≢ Set o v aim) → IsStateOf longer o t
     state_kept valid in_range accepted n = record {
       maker = maker_still;
-      chained = chains_other h o t.chains s.chained a n;
-      index = if_some t.index (λ ix. index_other h o t.chains s.chained a ix) s.index;
-      aimed = aimed_other h o t.chains s.chained a t.aimed s.aimed;
+      logs = logs_other h o t.logs s.logs a n;
+      index = if_some t.index (λ ix. index_other h o t.logs s.logs a ix) s.index;
+      aimed = aimed_other h o t.logs s.logs a t.aimed s.aimed;
       components = components_agree (number_conflict h t) (number_conflict longer t) t.components
           (λ i j k l. same_conflict h a valid in_range accepted (position_in t i) (position_in t j)
           (position_within i k) (position_within j l)) s.components;
@@ -178,58 +178,58 @@ module _ (h : List Op) (o : ObjectId) (t : ObjectState) (s : IsStateOf h o t) wh
     -- ONE MORE SETTER, whose rivals are d
     module _ (valid : IsValid h) (in_range : IsInRange a) (accepted : IsAccepted h a) (v : Value)
         {aim : List OpId} (change : a.change ≡ Set o v aim)
-        (d : List ℕ) (rivals : (n : ℕ) → Contains d n ↔ ConflictsAt h t.chains a n) where
+        (d : List ℕ) (rivals : (n : ℕ) → Contains d n ↔ ConflictsAt h t.logs a n) where
       abbrev site : ℕ
       site = a.id.site - 1
 
-      abbrev chains : List (List Setter)
-      chains = with_setter t.chains (attribute_of v) site
+      abbrev logs : List (List Setter)
+      logs = with_setter t.logs (attribute_of v) site
           (record { seq = a.id.seq; position = length h })
 
       abbrev x : ℕ
-      x = chain_number (chain_of (attribute_of v) site)
-          (length (setters t.chains (attribute_of v) site))
+      x = log_number (log_of (attribute_of v) site)
+          (length (setters t.logs (attribute_of v) site))
 
-      module _ (i : Option (List (Fingerprint × List ℕ))) (index : IfSome i (IsIndex longer chains))
-          (es : List AimedState) (aimed : AreAimed longer chains es) where
+      module _ (i : Option (List (Fingerprint × List ℕ))) (index : IfSome i (IsIndex longer logs))
+          (es : List AimedState) (aimed : AreAimed longer logs es) where
         abbrev pub grown : ObjectState
         grown = record {
-          chains = chains;
+          logs = logs;
           index = i;
           aimed = es;
           components = after d x t.components;
           maker = t.maker;
         }
 
-        chained : AreChainsOf longer o chains
-        chained = chains_setter h o t.chains s.chained a valid in_range accepted v change
+        logs : AreLogsOf longer o logs
+        logs = logs_setter h o t.logs s.logs a valid in_range accepted v change
 
-        cases : (n q : ℕ) → IsNumber chains n q → IsNumber t.chains n q ⊎ ((n ≡ x) × (q ≡ length h))
-        cases n q k = number_cases h o t.chains s.chained a valid in_range accepted v change n q k
+        cases : (n q : ℕ) → IsNumber logs n q → IsNumber t.logs n q ⊎ ((n ≡ x) × (q ≡ length h))
+        cases n q k = number_cases h o t.logs s.logs a valid in_range accepted v change n q k
 
-        new_number : IsNumber chains x (length h)
-        new_number = last_number h o t.chains s.chained a valid in_range accepted v change
+        new_number : IsNumber logs x (length h)
+        new_number = last_number h o t.logs s.logs a valid in_range accepted v change
 
-        old_number : (n q : ℕ) → IsNumber t.chains n q → IsNumber chains n q
-        old_number n q k = numbered h o t.chains s.chained a valid in_range accepted v change n q k
+        old_number : (n q : ℕ) → IsNumber t.logs n q → IsNumber logs n q
+        old_number n q k = numbered h o t.logs s.logs a valid in_range accepted v change n q k
 
-        position_new : (n q : ℕ) → IsNumber chains n q → position_in grown n ≡ q
-        position_new n q k = number_at longer o grown chained n q k
+        position_new : (n q : ℕ) → IsNumber logs n q → position_in grown n ≡ q
+        position_new n q k = number_at longer o grown logs n q k
 
         at_last : position_in grown x ≡ length h
         at_last = position_new x (length h) new_number
 
         at_maker : position_in grown maker_number ≡ t.maker
-        at_maker = maker_position longer o grown chained
+        at_maker = maker_position longer o grown logs
 
         -- what was there stays where it was
         as_before : (n : ℕ) → Contains (whole t.components).all n
             → position_in grown n ≡ position_in t n
         as_before n i = elim ((s.exactly n).0 i) [
           | inl e ↦ subst (λ z. position_in grown z ≡ position_in t z) (sym e)
-              (at_maker ∙ sym (maker_position h o t s.chained))
+              (at_maker ∙ sym (maker_position h o t s.logs))
           | inr w ↦ position_new n w.0 (old_number n w.0 w.1)
-              ∙ sym (number_at h o t s.chained n w.0 w.1)
+              ∙ sym (number_at h o t s.logs n w.0 w.1)
         ]
 
         before : AreComponents (number_conflict longer grown) t.components
@@ -250,7 +250,7 @@ module _ (h : List Op) (o : ObjectId) (t : ObjectState) (s : IsStateOf h o t) wh
         known_maker b at k =
             let mine : s.maker.op ≡ b = let y = s.maker.at in cc in
             let m = made_by s.maker.op.change s.maker.kind s.maker.made in
-            maker_calm h o t.chains s.chained valid a accepted v change b
+            maker_calm h o t.logs s.logs valid a accepted v change b
             (contained_at h t.maker b at) m.0 (ap (λ (z : Op). z.change) (sym mine) ∙ m.1) k
 
         conflict_last : (n q : ℕ) → position_in grown n ≡ q
@@ -301,7 +301,7 @@ module _ (h : List Op) (o : ObjectId) (t : ObjectState) (s : IsStateOf h o t) wh
         pub state_more : IsStateOf longer o grown
         state_more = record {
           maker = maker_still;
-          chained = chained;
+          logs = logs;
           index = index;
           aimed = aimed;
           components = step.0;
@@ -311,7 +311,7 @@ module _ (h : List Op) (o : ObjectId) (t : ObjectState) (s : IsStateOf h o t) wh
                 | inl e ↦ inl e
                 | inr w ↦ inr (w.0, old_number n w.0 w.1)
               ]
-              | inr e ↦ inr (length h, subst (λ z. IsNumber chains z (length h)) (sym e) new_number)
+              | inr e ↦ inr (length h, subst (λ z. IsNumber logs z (length h)) (sym e) new_number)
             ],
             λ w. (step.1 n).1 (elim w [
               | inl e ↦ inl ((s.exactly n).1 (inl e))
@@ -331,62 +331,62 @@ module _ (h : List Op) (o : ObjectId) (t : ObjectState) (s : IsStateOf h o t) (a
   abbrev place : ℕ
   place = a.id.site - 1
 
-  pub behind : (i : ℕ) (e : Setter) → i < length (setters t.chains u place)
-      → (get_or (setters t.chains u place) i e).seq < a.id.seq
-  behind = subst (λ z. (i : ℕ) (e : Setter) → i < length (setters t.chains z place)
-      → (get_or (setters t.chains z place) i e).seq < a.id.seq) (sym own)
-      (behind_all h o t.chains s.chained a valid in_range accepted v change)
+  pub behind : (i : ℕ) (e : Setter) → i < length (setters t.logs u place)
+      → (get_or (setters t.logs u place) i e).seq < a.id.seq
+  behind = subst (λ z. (i : ℕ) (e : Setter) → i < length (setters t.logs z place)
+      → (get_or (setters t.logs z place) i e).seq < a.id.seq) (sym own)
+      (behind_all h o t.logs s.logs a valid in_range accepted v change)
 
-  aimed_added : (us : List ℕ) (is : List OpId) → aim_of a ≡ is → AreNumbersOf h t.chains is us →
-      AreAimed (h ++ a ∷ []) (with_setter t.chains (attribute_of v) place
+  aimed_added : (us : List ℕ) (is : List OpId) → aim_of a ≡ is → AreNumbersOf h t.logs is us →
+      AreAimed (h ++ a ∷ []) (with_setter t.logs (attribute_of v) place
       (record { seq = a.id.seq; position = length h }))
       (with_aim is (record {
-        number = chain_number (chain_of (attribute_of v) place)
-            (length (setters t.chains (attribute_of v) place));
+        number = log_number (log_of (attribute_of v) place)
+            (length (setters t.logs (attribute_of v) place));
         aim = us;
       }) t.aimed)
-  aimed_added us [] e f = aimed_none h o t.chains s.chained a valid in_range accepted v change
+  aimed_added us [] e f = aimed_none h o t.logs s.logs a valid in_range accepted v change
       t.aimed s.aimed e
-  aimed_added us (i ∷ is) e f = aimed_more h o t.chains s.chained a valid in_range accepted v change
-      t.aimed us s.aimed (subst (λ z. AreNumbersOf h t.chains z us) (sym e) f)
+  aimed_added us (i ∷ is) e f = aimed_more h o t.logs s.logs a valid in_range accepted v change
+      t.aimed us s.aimed (subst (λ z. AreNumbersOf h t.logs z us) (sym e) f)
 
-  pub state_added : (d : List ℕ) → ((n : ℕ) → Contains d n ↔ ConflictsAt h t.chains a n)
-      → (us : List ℕ) → AreNumbersOf h t.chains (aim_of a) us →
-      (n p : ℕ) → n ≡ chain_number (chain_of u place) (length (setters t.chains u place))
+  pub state_added : (d : List ℕ) → ((n : ℕ) → Contains d n ↔ ConflictsAt h t.logs a n)
+      → (us : List ℕ) → AreNumbersOf h t.logs (aim_of a) us →
+      (n p : ℕ) → n ≡ log_number (log_of u place) (length (setters t.logs u place))
       → p ≡ length h →
       (i : Option (List (Fingerprint × List ℕ)))
-      → IfSome i (λ new. (old : List (Fingerprint × List ℕ)) × IsIndex h t.chains old × PutsNumber
+      → IfSome i (λ new. (old : List (Fingerprint × List ℕ)) × IsIndex h t.logs old × PutsNumber
       old (fingerprint_of v) n new) →
       (w : ObjectState) → w ≡ record {
-        chains = with_setter t.chains u place (record { seq = a.id.seq; position = p });
+        logs = with_setter t.logs u place (record { seq = a.id.seq; position = p });
         index = i;
         aimed = with_aim (aim_of a) (record { number = n; aim = us }) t.aimed;
         components = after d n t.components;
         maker = t.maker;
       } → IsStateOf (h ++ a ∷ []) o w
   state_added d rivals us are n p number position i index w is =
-      let chains : with_setter t.chains u place
-      (record { seq = a.id.seq; position = p }) ≡ with_setter t.chains (attribute_of v) place
+      let logs : with_setter t.logs u place
+      (record { seq = a.id.seq; position = p }) ≡ with_setter t.logs (attribute_of v) place
       (record { seq = a.id.seq; position = length h }) =
-      ap (λ z. with_setter t.chains z place (record { seq = a.id.seq; position = p })) own
-      ∙ ap (λ z. with_setter t.chains (attribute_of v) place
+      ap (λ z. with_setter t.logs z place (record { seq = a.id.seq; position = p })) own
+      ∙ ap (λ z. with_setter t.logs (attribute_of v) place
       (record { seq = a.id.seq; position = z })) position in
-      let last : n ≡ chain_number (chain_of (attribute_of v) place)
-      (length (setters t.chains (attribute_of v) place)) = number
-      ∙ ap (λ z. chain_number (chain_of z place) (length (setters t.chains z place))) own in
-      let tells_new = if_some i (λ new w. index_setter h o t.chains s.chained a valid in_range
+      let last : n ≡ log_number (log_of (attribute_of v) place)
+      (length (setters t.logs (attribute_of v) place)) = number
+      ∙ ap (λ z. log_number (log_of z place) (length (setters t.logs z place))) own in
+      let tells_new = if_some i (λ new w. index_setter h o t.logs s.logs a valid in_range
       accepted v change w.0 new w.1 (subst (λ z. PutsNumber w.0 (fingerprint_of v) z new) last w.2))
       index in
       let es = with_aim (aim_of a)
       (record {
-        number = chain_number (chain_of (attribute_of v) place)
-            (length (setters t.chains (attribute_of v) place));
+        number = log_number (log_of (attribute_of v) place)
+            (length (setters t.logs (attribute_of v) place));
         aim = us;
       }) t.aimed in
       let whole_is : w ≡ grown h o t s a valid in_range accepted v change d rivals i tells_new es
       (aimed_added us (aim_of a) refl are) =
       is ∙ (λ j. record {
-        chains = chains j;
+        logs = logs j;
         index = i;
         aimed = with_aim (aim_of a) (record { number = last j; aim = us }) t.aimed;
         components = after d (last j) t.components;
@@ -403,8 +403,8 @@ module _ (h : List Op) (a : Op) (o : ObjectId) (k : Kind) (id : a.id ≡ o.0)
   abbrev new : ObjectState
   new = made (length h)
 
-  no_number : (n q : ℕ) → ¬ (IsNumber no_chains n q)
-  no_number n q j = let w = (empty_chains o).each j.attribute j.site j.index j.setter j.within
+  no_number : (n q : ℕ) → ¬ (IsNumber no_logs n q)
+  no_number n q j = let w = (empty_logs o).each j.attribute j.site j.index j.setter j.within
       j.at in let e = w.at in absurd cc
 
   not_a : (v : Value) (aim : List OpId) → a.change ≢ Set o v aim
@@ -419,8 +419,8 @@ module _ (h : List Op) (a : Op) (o : ObjectId) (k : Kind) (id : a.id ≡ o.0)
   pub state_made : IsStateOf (h ++ a ∷ []) o new
   state_made = record {
     maker = record { op = a; at = got_last h a; id = id; kind = k; made = is_made };
-    chained = record {
-      each = λ t s p e l i. absurd (no_number (chain_number (chain_of t s) p) e.position
+    logs = record {
+      each = λ t s p e l i. absurd (no_number (log_number (log_of t s) p) e.position
           (record {
             attribute = t;
             site = s;
@@ -435,11 +435,11 @@ module _ (h : List Op) (a : Op) (o : ObjectId) (k : Kind) (id : a.id ≡ o.0)
         | inl i ↦ absurd (none q b v m i c)
         | inr i ↦ absurd (not_a v m (ap (λ (z : Op). z.change) i ∙ c))
       ];
-      ordered = (empty_chains o).ordered;
-      count = (empty_chains o).count;
+      ordered = (empty_logs o).ordered;
+      count = (empty_logs o).count;
     };
     index = tt;
-    aimed = none_aimed (h ++ a ∷ []) no_chains no_number;
+    aimed = none_aimed (h ++ a ∷ []) no_logs no_number;
     components = record {
       rises = rising_cons nat_cmp nat_cmp_total maker_number [] (λ i d l. absurd (omega arith))
           (rising_nil nat_cmp nat_cmp_total);
@@ -464,44 +464,44 @@ module _ (h : List Op) (a : Op) (o : ObjectId) (k : Kind) (id : a.id ≡ o.0)
 -- ---- the rivals of the next operation
 
 -- where no setter is unknown, there is no rival
-pub no_rivals : (h : List Op) (o : ObjectId) (cs : List (List Setter)) (v : Value) (past : Clock)
+pub no_rivals : (h : List Op) (o : ObjectId) (ls : List (List Setter)) (v : Value) (past : Clock)
     (u : List ℕ) → u ≡ [] →
-    ((n : ℕ) → Contains u n ↔ IsUnknown cs (attribute_of v) past 8 n) → AreRivals h o cs v past u
-no_rivals h o cs v past u none f n = (
+    ((n : ℕ) → Contains u n ↔ IsUnknown ls (attribute_of v) past 8 n) → AreRivals h o ls v past u
+no_rivals h o ls v past u none f n = (
   λ i. absurd (not_Contains-nil n (subst (λ z. Contains z n) none i)),
   λ w. (f n).1 w.0,
 )
 
--- an index that is there chained
+-- an index that is there logs
 pub index_there : (h : List Op) (o : ObjectId) (t : ObjectState) → IsStateOf h o t
-    → (ix : List (Fingerprint × List ℕ)) → t.index ≡ Some ix → IsIndex h t.chains ix
-index_there h o t s ix e = subst (λ r. IfSome r (IsIndex h t.chains)) e s.index
+    → (ix : List (Fingerprint × List ℕ)) → t.index ≡ Some ix → IsIndex h t.logs ix
+index_there h o t s ix e = subst (λ r. IfSome r (IsIndex h t.logs)) e s.index
 
 -- what the table finds of the next operation's conflicts
 module _ (h : List Op) (o : ObjectId) (t : ObjectState) (s : IsStateOf h o t) (a : Op)
     (valid : IsValid h) (in_range : IsInRange a) (accepted : IsAccepted h a)
     (v : Value) {aim : List OpId} (change : a.change ≡ Set o v aim) (us : List ℕ)
-    (are : AreNumbersOf h t.chains (aim_of a) us) where
+    (are : AreNumbersOf h t.logs (aim_of a) us) where
   -- what conflicts with one of the aim is of its component
-  met_by_aim : (m n : ℕ) → Contains us m → ConflictDirectly h t.chains m n → IsMetByAim h t us n
+  met_by_aim : (m n : ℕ) → Contains us m → ConflictDirectly h t.logs m n → IsRivalOfAim h t us n
   met_by_aim m n i c =
-      let w = conflict_numbers h o t.chains s.chained m n c in
+      let w = conflict_numbers h o t.logs s.logs m n c in
       let told : conflict_at h w.0 w.1 ≡ true = conflict_from h valid w.0 w.1 c.first c.second w.4
       w.5 (conflict_direct h c.first c.second c.direct) in
       let same : number_conflict h t m n ≡ true = ap (λ z. conflict_at h z (position_in t n))
-      (number_at h o t s.chained m w.0 w.2)
-      ∙ (ap (conflict_at h w.0) (number_at h o t s.chained n w.1 w.3) ∙ told) in
+      (number_at h o t s.logs m w.0 w.2)
+      ∙ (ap (conflict_at h w.0) (number_at h o t s.logs n w.1 w.3) ∙ told) in
       let r = conflict_reached (number_conflict h t) (numbers_test h t) t.components s.components us
       m n i ((s.exactly m).1 (inr (w.0, w.2))) ((s.exactly n).1 (inr (w.1, w.3))) same in
       record { reached = r.1; one = m; among = i; one_reached = r.0; conflict = c }
 
-  pub rivals_found : (own met d : List ℕ) → AreRivals h o t.chains v a.past own
-      → ((n : ℕ) → Contains met n ↔ (Contains own n ⊎ IsMetByAim h t us n)) →
+  pub rivals_found : (own met d : List ℕ) → AreRivals h o t.logs v a.past own
+      → ((n : ℕ) → Contains met n ↔ (Contains own n ⊎ IsRivalOfAim h t us n)) →
       ((n : ℕ) → Contains d n ↔ (Contains met n ⊎ AimsAtOne t.aimed met n)) → (n : ℕ)
-      → Contains d n ↔ ConflictsAt h t.chains a n
+      → Contains d n ↔ ConflictsAt h t.logs a n
   rivals_found own met d rivals met_are d_are =
-      aims_conflict h o t.chains s.chained valid a accepted v change t.aimed s.aimed met d
-      (aim_met h o t.chains s.chained valid a accepted v change own us met (IsMetByAim h t us)
-      (rivals_conflict h o t.chains s.chained valid a in_range accepted v change own rivals) are
+      aims_conflict h o t.logs s.logs valid a accepted v change t.aimed s.aimed met d
+      (aim_met h o t.logs s.logs valid a accepted v change own us met (IsRivalOfAim h t us)
+      (rivals_conflict h o t.logs s.logs valid a in_range accepted v change own rivals) are
       (λ n w. record { one = w.one; among = w.among; conflict = w.conflict }) met_by_aim met_are)
       d_are

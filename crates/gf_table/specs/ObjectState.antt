@@ -6,14 +6,14 @@ use Rattle.gf_ops.specs.declared.op.OpId.{OpId}
 use Rattle.gf_ops.specs.declared.change.Attr.{Attr}
 use Rattle.gf_components.specs.Components.{ComponentsState, after, no_components, with_free}
 use Rattle.gf_groups.specs.Growing.{conflict_at}
-use Rattle.gf_rivals.specs.declared.chain.Setter.{Setter}
+use Rattle.gf_rivals.specs.declared.log.Setter.{Setter}
 use Rattle.gf_rivals.specs.declared.fingerprint.Fingerprint.{Fingerprint}
 use Rattle.gf_rivals.specs.Aimed.{AimedState}
 use Rattle.gf_rivals.specs.declared.setter_index.TheConstants.{FIRST_ABOVE}
-use Rattle.gf_rivals.specs.Chains.{no_chains, position_of, with_setter}
+use Rattle.gf_rivals.specs.Logs.{no_logs, position_of, with_setter}
 
 pub record ObjectState : Type 0 where
-  pub chains : List (List Setter)
+  pub logs : List (List Setter)
   pub index : Option (List (Fingerprint × List ℕ))
   pub aimed : List AimedState
   pub components : ComponentsState
@@ -26,7 +26,7 @@ maker_number = FIRST_ABOVE
 -- the state of an object whose creation stands at the position m
 abbrev pub made : ℕ → ObjectState
 made m = record {
-  chains = no_chains;
+  logs = no_logs;
   index = None;
   aimed = [];
   components = with_free maker_number no_components;
@@ -37,7 +37,7 @@ made m = record {
 -- the position p and has the number n
 abbrev pub with_grown : Attr → OpId → ℕ → ℕ → List ℕ → ObjectState → ObjectState
 with_grown u id p n d t = record {
-  chains = with_setter t.chains u (id.site - 1) (record { seq = id.seq; position = p });
+  logs = with_setter t.logs u (id.site - 1) (record { seq = id.seq; position = p });
   index = t.index;
   aimed = t.aimed;
   components = after d n t.components;
@@ -46,7 +46,7 @@ with_grown u id p n d t = record {
 
 -- the position of the operation with the number n
 abbrev pub position_in : ObjectState → ℕ → ℕ
-position_in t n = unwrap_or (position_of t.chains n) t.maker
+position_in t n = unwrap_or (position_of t.logs n) t.maker
 
 -- the operations of h with the numbers i and j conflict
 abbrev pub number_conflict : List Op → ObjectState → ℕ → ℕ → Bool

@@ -24,7 +24,7 @@ use Rattle.gf_components.specs.Components.{whole}
 use Rattle.gf_components.specs.Separate.{AreComponents}
 use Rattle.gf_rivals.specs.Aimed.{AimedState, AreAimed, ConflictDirectly}
 use Rattle.gf_rivals.specs.Indexes.{IsIndex}
-use Rattle.gf_rivals.specs.Rivals.{IsNumber, AreChainsOf}
+use Rattle.gf_rivals.specs.Rivals.{IsNumber, AreLogsOf}
 use Rattle.gf_table.specs.ObjectState.{ObjectState, maker_number, number_conflict}
 
 -- the operation of h at the position m made the object o
@@ -38,12 +38,12 @@ pub record IsMaker (h : List Op) (o : ObjectId) (m : ℕ) : Type 0 where
 -- the state is that of the operations of h on the object o
 pub record IsStateOf (h : List Op) (o : ObjectId) (t : ObjectState) : Type 0 where
   pub maker : IsMaker h o t.maker
-  pub chained : AreChainsOf h o t.chains
-  pub index : IfSome t.index (IsIndex h t.chains)
-  pub aimed : AreAimed h t.chains t.aimed
+  pub logs : AreLogsOf h o t.logs
+  pub index : IfSome t.index (IsIndex h t.logs)
+  pub aimed : AreAimed h t.logs t.aimed
   pub components : AreComponents (number_conflict h t) t.components
   pub exactly : (n : ℕ) → Contains (whole t.components).all n
-      ↔ ((n ≡ maker_number) ⊎ ((q : ℕ) × IsNumber t.chains n q))
+      ↔ ((n ≡ maker_number) ⊎ ((q : ℕ) × IsNumber t.logs n q))
 
 -- a comes next behind h, and gives the object of the state t the value v
 pub record IsNextOf (h : List Op) (a : Op) (v : Value) (t : ObjectState) : Type 0 where
@@ -56,12 +56,12 @@ pub record IsNextOf (h : List Op) (a : Op) (v : Value) (t : ObjectState) : Type 
   pub state : IsStateOf h object t
 
 -- a setter with one of the numbers us conflicts directly with the setter n, in one component
-pub record IsMetByAim (h : List Op) (t : ObjectState) (us : List ℕ) (n : ℕ) : Type 0 where
+pub record IsRivalOfAim (h : List Op) (t : ObjectState) (us : List ℕ) (n : ℕ) : Type 0 where
   pub reached : IsReached us t.components.components n
   pub one : ℕ
   pub among : Contains us one
   pub one_reached : IsReached us t.components.components one
-  pub conflict : ConflictDirectly h t.chains one n
+  pub conflict : ConflictDirectly h t.logs one n
 
 -- es with the state of an aim behind, where an operation with this aim has a state
 abbrev pub with_aim : List OpId → AimedState → List AimedState → List AimedState

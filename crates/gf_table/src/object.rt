@@ -7,16 +7,16 @@ ghost use Rattle.gf_maximal.specs.Growing.{image};
 ghost use Rattle.gf_ops.specs.Attribute.{aim_of};
 ghost use Rattle.gf_ops.specs.OperationOrder.{IsSite};
 ghost use Rattle.gf_rivals.specs.Aimed.{AreNumbersOf, IsConflict};
-ghost use Rattle.gf_rivals.specs.Chains.{setters};
+ghost use Rattle.gf_rivals.specs.Logs.{setters};
 ghost use Rattle.gf_rivals.specs.Members.{ListsSetters};
-ghost use Rattle.gf_rivals.specs.Rivals.{AreRivals, AreChainsOf};
+ghost use Rattle.gf_rivals.specs.Rivals.{AreRivals, AreLogsOf};
 ghost use Rattle.gf_rivals.specs.Indexes.{IsIndex, PutsNumber};
 ghost use Rattle.gf_rivals.specs.Fingerprints.{fingerprint_of};
 ghost use Rattle.gf_ops.specs.declared.change.Change.TheVariants.{Set};
 ghost use Rattle.gf_table.specs.ByPosition.{sets_at, component_at, components_at};
 ghost use Rattle.gf_table.specs.Multiplying.{counted};
 ghost use Rattle.gf_table.specs.ObjectState.{made, maker_number, position_in, with_grown};
-ghost use Rattle.gf_table.specs.Standing.{IsMetByAim, IsNextOf, IsStateOf, with_aim};
+ghost use Rattle.gf_table.specs.Standing.{IsRivalOfAim, IsNextOf, IsStateOf, with_aim};
 
 use crate::counting::counted;
 use gf_base::OutOfMemory;
@@ -24,7 +24,7 @@ use gf_components::{Component, Components};
 use gf_maximal::Numbers;
 use gf_ops::{Attr, Clock, History, Op, OpId, Value};
 use gf_rivals::{
-    Aimed, Chains, FIRST_ABOVE, Index, conflicting_with, numbers_of, rivals, with_aimed,
+    Aimed, Logs, FIRST_ABOVE, Index, conflicting_with, numbers_of, rivals, with_aimed,
 };
 use std::alloc::Global;
 use std::marker::Model;
@@ -104,11 +104,11 @@ fn copied_aimed(alloc: Global, aimed: &[Aimed]) -> Result<Vec<Aimed>, OutOfMemor
     Ok(copy)
 }
 
-/// The operations on an object, by numbers: the chains of its setters, and their components. It
+/// The operations on an object, by numbers: the logs of its setters, and their components. It
 /// also has what aims, and the position of the creation.
 #[derive(Debug, Drop)]
 pub(crate) struct ObjectTable {
-    chains: Chains,
+    logs: Logs,
     index: Option<Index>,
     aimed: Vec<Aimed>,
     components: Components,
@@ -121,7 +121,7 @@ impl Model for ObjectTable {
     ghost Value = { ObjectState };
 
     ghost view = { λ t. record {
-      chains = t.chains;
+      logs = t.logs;
       index = t.index;
       aimed = t.aimed.items;
       components = t.components;
@@ -137,7 +137,7 @@ impl ObjectTable {
         let mut components = Components::new(alloc);
         components.add(alloc, &Numbers::new(alloc), MAKER)?;
         Ok(ObjectTable {
-            chains: Chains::new(alloc),
+            logs: Logs::new(alloc),
             index: None,
             aimed: Vec::new(alloc),
             components,
@@ -155,22 +155,22 @@ impl ObjectTable {
         value: &Value,
     ) -> Result<(Numbers, Option<Index>), OutOfMemory>
         ensures rivals { IfOk result (λ found. (o : _) → IsStateOf history.now.ops o self.now
-            → AreRivals history.now.ops o self.now.chains value.now past.now found.0) }
+            → AreRivals history.now.ops o self.now.logs value.now past.now found.0) }
         ensures made { IfOk result (λ found.
-            IfSome found.1 (IsIndex history.now.ops self.now.chains)) }
+            IfSome found.1 (IsIndex history.now.ops self.now.logs)) }
     {
-        let unknown = self.chains.unknown(alloc, value.attribute(), past)?;
+        let unknown = self.logs.unknown(alloc, value.attribute(), past)?;
         if unknown.is_empty() {
             return Ok((unknown, None));
         }
         match &self.index {
             Some(index) => {
-                let found = rivals(alloc, history, &self.chains, index, value, unknown)?;
+                let found = rivals(alloc, history, &self.logs, index, value, unknown)?;
                 Ok((found, None))
             }
             None => {
-                let index = Index::of(alloc, history, &self.chains)?;
-                let found = rivals(alloc, history, &self.chains, &index, value, unknown)?;
+                let index = Index::of(alloc, history, &self.logs)?;
+                let found = rivals(alloc, history, &self.logs, &index, value, unknown)?;
                 Ok((found, Some(index)))
             }
         }
@@ -178,23 +178,23 @@ impl ObjectTable {
 
     /// The numbers, with those of the setters that conflict directly with one of the aim. Only
     /// operations of the components that the aim touches are compared.
-    fn with_met(
+    fn with_rivals_of_aim(
         &self,
         alloc: Global,
         history: &History,
         direct: Numbers,
         aim: &Numbers,
     ) -> Result<Numbers, OutOfMemory>
-        ensures { IfOk result (λ met. (o : _) → AreChainsOf history.now.ops o self.now.chains
-            → ListsSetters self.now.chains aim.now → (n : _) → Contains met n
-            ↔ (Contains direct n ⊎ IsMetByAim history.now.ops self.now aim.now n)) }
+        ensures { IfOk result (λ met. (o : _) → AreLogsOf history.now.ops o self.now.logs
+            → ListsSetters self.now.logs aim.now → (n : _) → Contains met n
+            ↔ (Contains direct n ⊎ IsRivalOfAim history.now.ops self.now aim.now n)) }
     {
         if aim.is_empty() {
             return Ok(direct);
         }
         let reach = self.components.reach(alloc, aim)?;
         let members = aim.common(alloc, &reach)?;
-        let met = conflicting_with(alloc, history, &self.chains, &members, &reach)?;
+        let met = conflicting_with(alloc, history, &self.logs, &members, &reach)?;
         direct.united(alloc, &met)
     }
 
@@ -209,14 +209,14 @@ impl ObjectTable {
         aim: &Numbers,
     ) -> Result<(Numbers, Option<Index>), OutOfMemory>
         requires next { IsNextOf history.now.ops op.now value.now self.now }
-        requires aim { AreNumbersOf history.now.ops self.now.chains (aim_of op.now) aim.now }
+        requires aim { AreNumbersOf history.now.ops self.now.logs (aim_of op.now) aim.now }
         ensures rivals { IfOk result (λ found. (n : _) → Contains found.0 n
-            ↔ IsConflict history.now.ops self.now.chains op.now n) }
+            ↔ IsConflict history.now.ops self.now.logs op.now n) }
         ensures made { IfOk result (λ found.
-            IfSome found.1 (IsIndex history.now.ops self.now.chains)) }
+            IfSome found.1 (IsIndex history.now.ops self.now.logs)) }
     {
         let (direct, made) = self.direct_rivals(alloc, history, &op.past, value)?;
-        let met = self.with_met(alloc, history, direct, aim)?;
+        let met = self.with_rivals_of_aim(alloc, history, direct, aim)?;
         let found = with_aimed(alloc, met, &self.aimed)?;
         Ok((found, made))
     }
@@ -234,19 +234,19 @@ impl ObjectTable {
         requires site { IsSite id.site }
         requires first { 0 < id.seq }
         requires last { (i : _) (d : _)
-            → i < length (setters self.old.chains attribute (id.site - 1))
-            → (slice_index_or (setters self.old.chains attribute (id.site - 1)) i d).seq < id.seq }
-        requires chains { length self.old.chains ≡ 48 }
+            → i < length (setters self.old.logs attribute (id.site - 1))
+            → (slice_index_or (setters self.old.logs attribute (id.site - 1)) i d).seq < id.seq }
+        requires logs { length self.old.logs ≡ 48 }
         requires number { number + 1 < 2 ^ 64 }
         ensures ok { OnOk result (self.new
             ≡ with_grown attribute id position number rivals.now self.old) }
         ensures err { OnErr result (self.new ≡ self.old) }
     {
-        self.chains.push(alloc, attribute, id, position)?;
+        self.logs.push(alloc, attribute, id, position)?;
         match self.components.add(alloc, rivals, number) {
             Ok(()) => Ok(()),
             Err(OutOfMemory) => {
-                self.chains.pop(attribute, id.site);
+                self.logs.pop(attribute, id.site);
                 Err(OutOfMemory)
             }
         }
@@ -266,8 +266,8 @@ impl ObjectTable {
         ensures err { OnErr result (self.new ≡ self.old) }
     {
         let attribute = value.attribute();
-        let number = self.chains.next_number(attribute, op.id.site);
-        let aim = numbers_of(alloc, history, &self.chains, op.aim())?;
+        let number = self.logs.next_number(attribute, op.id.site);
+        let aim = numbers_of(alloc, history, &self.logs, op.aim())?;
         let (rivals, made) = self.rivals(alloc, history, op, value, &aim)?;
         push_aimed(&mut self.aimed, op, number, aim)?;
         let position = history.ops().len();
@@ -288,12 +288,12 @@ impl ObjectTable {
     pub(crate) fn copy(&self, alloc: Global) -> Result<ObjectTable, OutOfMemory>
         ensures { IfOk result (λ copy. copy ≡ self.now) }
     {
-        let chains = self.chains.copy(alloc)?;
+        let logs = self.logs.copy(alloc)?;
         let index = copied(alloc, &self.index)?;
         let aimed = copied_aimed(alloc, &self.aimed)?;
         let components = self.components.copy(alloc)?;
         Ok(ObjectTable {
-            chains,
+            logs,
             index,
             aimed,
             components,
@@ -305,7 +305,7 @@ impl ObjectTable {
     fn position(&self, number: usize) -> usize
         ensures { result ≡ position_in self.now number }
     {
-        match self.chains.position(number) {
+        match self.logs.position(number) {
             Some(position) => position,
             None => self.maker,
         }

@@ -11,8 +11,8 @@ use Rattle.std.proofs.lemmas.Slice.Eq.{bytes_eq-Decides}
 use Rattle.std.proofs.lemmas.List.Elements.{Contains-get_or}
 use Rattle.gf_base.proofs.ListLemmas.{Contains-cons_head, Contains-cons_tail}
 use Rattle.gf_base.proofs.FilterLemmas.{list_any_from}
-use Rattle.gf_maximal.specs.Growing.{is_in, meets, without}
-use Rattle.gf_maximal.proofs.MaximalLemmas.{meets_none, out_of}
+use Rattle.gf_maximal.specs.Growing.{is_in, intersects, without}
+use Rattle.gf_maximal.proofs.MaximalLemmas.{intersects_none, out_of}
 use Rattle.gf_ops.specs.declared.op.Op.{Op}
 use Rattle.gf_visible.specs.OnePass.{put, puts, pass, passes}
 use Rattle.gf_visible.specs.Passing.{GatheredState, found, gathered, is_seen, rivals_of, ungathered}
@@ -73,13 +73,13 @@ all_kept p (x ∷ xs) f = rw (cond-true (p x) (x ∷ filter p xs) (filter p xs)
     (f x (Contains-cons_head x xs)))
     (ap (λ z. x ∷ z) (all_kept p xs (λ a i. f a (Contains-cons_tail x xs a i))))
 
-untouched : (d t : List ℕ) → meets d t ≡ false → without d t ≡ t
+untouched : (d t : List ℕ) → intersects d t ≡ false → without d t ≡ t
 untouched d t n = all_kept (λ a. not (is_in d a)) t
-    (λ a i. ap not (out_of d a (meets_none d t n a i)))
+    (λ a i. ap not (out_of d a (intersects_none d t n a i)))
 
 -- where the rivals meet none of a set, nothing is put
 rest_known : (seen : List ℕ → Bool) (sets : List (List ℕ)) (rivals t : List ℕ) → Contains sets t
-    → meets rivals t ≡ false → sets ≡ put seen sets (without rivals t)
+    → intersects rivals t ≡ false → sets ≡ put seen sets (without rivals t)
 rest_known seen sets rivals t i n = rw (untouched rivals t n) (sym (put_known seen sets t i))
 
 -- ---- a turn of the pass
@@ -221,7 +221,7 @@ get_any (x ∷ xs) (suc i) d e l = get_any xs i d e (omega arith)
 
 -- what the code tells of the rest of one set, where the rivals meet none of it
 pub rest_same : (seen : List ℕ → Bool) (sets : List (List ℕ)) (rivals t : List ℕ) (i : ℕ)
-    → i < length sets → t ≡ get_or sets i t → meets rivals t ≡ false
+    → i < length sets → t ≡ get_or sets i t → intersects rivals t ≡ false
     → (d : List ℕ) → sets ≡ put seen sets (without rivals (get_or sets i d))
 rest_same seen sets rivals t i l e n d =
     let there : Contains sets t = subst (Contains sets) (sym e) (Contains-get_or sets i t l) in

@@ -10,17 +10,17 @@ use Rattle.std.proofs.Math.Nat.{pow-suc}
 use Rattle.std.proofs.lemmas.List.{append_assoc}
 use Rattle.gf_base.proofs.ListLemmas.{Contains-cons_cases, Contains-cons_head, Contains-cons_tail}
 use Rattle.gf_base.proofs.ListLemmas.{not_Contains-nil}
-use Rattle.gf_maximal.specs.Growing.{meets, without}
+use Rattle.gf_maximal.specs.Growing.{intersects, without}
 use Rattle.gf_base.proofs.FilterLemmas.{list_all_true, list_all_from}
-use Rattle.gf_maximal.proofs.MaximalLemmas.{Within, meets_one, meets_from, Contains-without}
+use Rattle.gf_maximal.proofs.MaximalLemmas.{Within, intersects_one, intersects_from, Contains-without}
 use Rattle.gf_visible.specs.Choices.{StepState, holds, all_hold, choices, answers, first, second}
 use Rattle.gf_visible.specs.PendingChoices.{ChoiceState, all_answers, weight_of}
 use Rattle.gf_visible.proofs.PassingLemmas.{drop_next}
 
 -- ---- what is possible shrinks
 
-meets_more : (d g p : List ℕ) → Within g p → meets d g ≡ true → meets d p ≡ true
-meets_more d g p w t = let m = meets_one d g t in meets_from d p m.0 m.1 (w m.0 m.2)
+intersects_more : (d g p : List ℕ) → Within g p → intersects d g ≡ true → intersects d p ≡ true
+intersects_more d g p w t = let m = intersects_one d g t in intersects_from d p m.0 m.1 (w m.0 m.2)
 
 pub or_first : (a b : Bool) → a ≡ true → (a || b) ≡ true
 or_first true b t = refl
@@ -32,21 +32,21 @@ or_second false b t = t
 
 -- what holds among fewer positions holds among more
 holds_more : (g p : List ℕ) (s : StepState) → Within g p → holds g s ≡ true → holds p s ≡ true
-holds_more g p s w t = elim (or_cases (meets s.own g && (not s.hides || meets s.covers g))
-    (meets s.rivals g) t) [
+holds_more g p s w t = elim (or_cases (intersects s.own g && (not s.hides || intersects s.covers g))
+    (intersects s.rivals g) t) [
       | inl a ↦
-          let parts = and_parts (meets s.own g) (not s.hides || meets s.covers g) a in
-          let covered : (not s.hides || meets s.covers p) ≡ true = elim (or_cases (not s.hides)
-          (meets s.covers g) parts.1) [
-            | inl n ↦ or_first (not s.hides) (meets s.covers p) n
-            | inr m ↦ or_second (not s.hides) (meets s.covers p) (meets_more s.covers g p w m)
+          let parts = and_parts (intersects s.own g) (not s.hides || intersects s.covers g) a in
+          let covered : (not s.hides || intersects s.covers p) ≡ true = elim (or_cases (not s.hides)
+          (intersects s.covers g) parts.1) [
+            | inl n ↦ or_first (not s.hides) (intersects s.covers p) n
+            | inr m ↦ or_second (not s.hides) (intersects s.covers p) (intersects_more s.covers g p w m)
           ] in
-          or_first (meets s.own p && (not s.hides || meets s.covers p)) (meets s.rivals p)
-          (and_from (meets s.own p) (not s.hides || meets s.covers p)
-          (meets_more s.own g p w parts.0)
+          or_first (intersects s.own p && (not s.hides || intersects s.covers p)) (intersects s.rivals p)
+          (and_from (intersects s.own p) (not s.hides || intersects s.covers p)
+          (intersects_more s.own g p w parts.0)
           covered)
-      | inr m ↦ or_second (meets s.own p && (not s.hides || meets s.covers p)) (meets s.rivals p)
-          (meets_more s.rivals g p w m)
+      | inr m ↦ or_second (intersects s.own p && (not s.hides || intersects s.covers p)) (intersects s.rivals p)
+          (intersects_more s.rivals g p w m)
     ]
 
 -- ---- the choices of one step
@@ -54,21 +54,21 @@ holds_more g p s w t = elim (or_cases (meets s.own g && (not s.hides || meets s.
 -- g comes from a step that is chosen, is left out, or is not possible
 abbrev pub Ways : StepState → List StepState → List ℕ → List ℕ → Type 0
 Ways s steps p g =
-    ((meets s.own p ≡ true) × Contains (choices steps (without s.rivals p)) g)
+    ((intersects s.own p ≡ true) × Contains (choices steps (without s.rivals p)) g)
     ⊎ (Contains (choices steps (without s.own p)) g
-    ⊎ ((meets s.own p ≡ false) × Contains (choices steps p) g))
+    ⊎ ((intersects s.own p ≡ false) × Contains (choices steps p) g))
 
 module _ (s : StepState) (steps : List StepState) (p : List ℕ) where
-  pub choices_in : meets s.own p ≡ true
+  pub choices_in : intersects s.own p ≡ true
       → choices (s ∷ steps) p ≡ choices steps (first s p) ++ choices steps (second s p)
-  choices_in y = cond-true (meets s.own p) (choices steps (first s p) ++ choices steps (second s p))
+  choices_in y = cond-true (intersects s.own p) (choices steps (first s p) ++ choices steps (second s p))
       (choices steps p) y
 
-  pub choices_out : meets s.own p ≡ false → choices (s ∷ steps) p ≡ choices steps p
-  choices_out n = cond-false (meets s.own p)
+  pub choices_out : intersects s.own p ≡ false → choices (s ∷ steps) p ≡ choices steps p
+  choices_out n = cond-false (intersects s.own p)
       (choices steps (first s p) ++ choices steps (second s p)) (choices steps p) n
 
-  module _ (y : meets s.own p ≡ true) where
+  module _ (y : intersects s.own p ≡ true) where
     by_first : (g : List ℕ) → Contains (choices steps (first s p)) g
         → Contains (choices (s ∷ steps) p) g
     by_first g i = subst (λ z. Contains z g) (sym (choices_in y))
@@ -98,7 +98,7 @@ module _ (s : StepState) (steps : List StepState) (p : List ℕ) where
     ]
 
   pub ways : (g : List ℕ) → Contains (choices (s ∷ steps) p) g → Ways s steps p g
-  ways g i = elim (cases_Bool (meets s.own p)) [
+  ways g i = elim (cases_Bool (intersects s.own p)) [
     | inl y ↦ elim (cases_Bool s.hides) [
       | inl h ↦ elim (Contains-append_cases (choices steps (first s p)) (choices steps (second s p))
           g (subst (λ z. Contains z g) (choices_in y) i)) [
@@ -161,7 +161,7 @@ module _ (all : List StepState) where
         | inr n2 ↦ n2
       ])
 
-  answers_in : (s : StepState) (steps : List StepState) (p : List ℕ) → meets s.own p ≡ true
+  answers_in : (s : StepState) (steps : List StepState) (p : List ℕ) → intersects s.own p ≡ true
       → answers all (s ∷ steps) p ≡ answers all steps (first s p) ++ answers all steps (second s p)
   answers_in s steps p y = ap (filter (all_hold all)) (choices_in s steps p y)
       ∙ filter-append (all_hold all) (choices steps (first s p)) (choices steps (second s p))
@@ -190,18 +190,18 @@ module _ (all : List StepState) where
     split : drop i all ≡ s ∷ rest
     split = drop_next all i s less ∙ ap (λ (z : StepState). z ∷ rest) (sym is)
 
-    both : meets s.own p ≡ true → answers all (drop i all) p ≡ answers all rest
+    both : intersects s.own p ≡ true → answers all (drop i all) p ≡ answers all rest
         (first s p) ++ answers all rest (second s p)
     both y = ap (λ zs. answers all zs p) split ∙ answers_in s rest p y
 
-    pub turn_out : (goal left : List (List ℕ)) → meets s.own p ≡ false
+    pub turn_out : (goal left : List (List ℕ)) → intersects s.own p ≡ false
         → answers all (drop i all) p ++ left ≡ goal → answers all rest p ++ left ≡ goal
     turn_out goal left n leads =
         ap (λ zs. zs ++ left) (sym (ap (λ zs. answers all zs p) split
         ∙ ap (filter (all_hold all)) (choices_out s rest p n))) ∙ leads
 
     module _ (a b : List ℕ) (is_a : a ≡ first s p) (is_b : b ≡ second s p)
-        (y : true ≡ meets s.own p) where
+        (y : true ≡ intersects s.own p) where
       ways_told : answers all (drop i all) p ≡ answers all rest a ++ answers all rest b
       ways_told = both (sym y)
           ∙ (ap (λ z. answers all rest z ++ answers all rest (second s p)) (sym is_a)

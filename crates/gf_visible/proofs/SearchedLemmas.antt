@@ -15,7 +15,7 @@ use Rattle.gf_base.proofs.ListLemmas.{Contains-map_from, not_Contains-nil}
 use Rattle.gf_base.proofs.FilterLemmas.{Contains-filter}
 use Rattle.gf_ops.specs.declared.op.Op.{Op}
 use Rattle.gf_ops.specs.ValidHistory.{IsValid}
-use Rattle.gf_maximal.specs.Growing.{is_in, joined, meets, without}
+use Rattle.gf_maximal.specs.Growing.{is_in, joined, intersects, without}
 use Rattle.gf_maximal.specs.Tables.{IsRising}
 use Rattle.gf_maximal.proofs.MaximalLemmas.{in_list, from_list}
 use Rattle.gf_visible.specs.Cuts.{AreWithin, cut, has_some, misses, rivals, seen}
@@ -62,8 +62,8 @@ in_filter p T x i = same_truth (is_in (filter p T) x) (p x)
     (λ h. ((Contains-filter p T x).0 (from_list (filter p T) x h)).1)
     (λ h. in_list (filter p T) x ((Contains-filter p T x).1 (i, h)))
 
-meets_agrees : (p : ℕ → Bool) (T t : List ℕ) → AreWithin t T → meets (filter p T) t ≡ list_any p t
-meets_agrees p T t into = any_agrees (is_in (filter p T)) p t (λ x i. in_filter p T x (into x i))
+intersects_agrees : (p : ℕ → Bool) (T t : List ℕ) → AreWithin t T → intersects (filter p T) t ≡ list_any p t
+intersects_agrees p T t into = any_agrees (is_in (filter p T)) p t (λ x i. in_filter p T x (into x i))
 
 without_agrees : (p : ℕ → Bool) (T t : List ℕ) → AreWithin t T
     → without (filter p T) t ≡ filter (λ x. not (p x)) t
@@ -136,8 +136,8 @@ module _ (h : List Op) (valid : IsValid h) where
 
     seen_agrees : (t : List ℕ) → AreWithin t T → is_seen (walls h T F) t ≡ seen (knows_at h) F t
     seen_agrees t into =
-        ap (λ b. has_some t && b) (all_agrees (λ wall. meets wall t) (missed h T)
-        (misses (knows_at h) t) W (λ w. meets_agrees (λ x. not (knows_at h w x)) T t into))
+        ap (λ b. has_some t && b) (all_agrees (λ wall. intersects wall t) (missed h T)
+        (misses (knows_at h) t) W (λ w. intersects_agrees (λ x. not (knows_at h w x)) T t into))
         ∙ last_decide_at h valid F W t (have_last F set)
 
     rest_agrees : (t : List ℕ) (f : ℕ) → AreWithin t T → rest t f ≡ left t f
@@ -247,8 +247,8 @@ module _ (h : List Op) (T t : List ℕ) (into : AreWithin t T) where
       }
   position_told g a = elim (cases_Bool (hides_at h a)) [
     | inl y ↦ rw y (ap (λ (z : List ℕ). state z)
-        (cond_not (meets (rivals_of h T a) t) g (joined a g) ∙ ap (λ b. cond (not b) (joined a g) g)
-        (meets_agrees (rivals (knows_at h) (follows_at h) a) T t into)))
+        (cond_not (intersects (rivals_of h T a) t) g (joined a g) ∙ ap (λ b. cond (not b) (joined a g) g)
+        (intersects_agrees (rivals (knows_at h) (follows_at h) a) T t into)))
     | inr n ↦ rw n refl
   ]
     where

@@ -15,11 +15,11 @@ use Rattle.std.proofs.lemmas.List.{take_all}
 use Rattle.std.proofs.lemmas.List.Kept.{IsStrictlySortedBy-filter}
 use Rattle.gf_base.proofs.ListLemmas.{Contains-cons_cases, Contains-cons_head, Contains-cons_tail}
 use Rattle.gf_base.proofs.ListLemmas.{Contains-map, Contains-map_from, not_Contains-nil}
-use Rattle.gf_maximal.specs.Growing.{is_in, meets, without}
+use Rattle.gf_maximal.specs.Growing.{is_in, intersects, without}
 use Rattle.gf_maximal.specs.Tables.{IsRising}
 use Rattle.gf_maximal.proofs.InsertLemmas.{inserted_all, holds_all}
 use Rattle.gf_base.proofs.FilterLemmas.{Contains-filter, list_all_true, list_all_from}
-use Rattle.gf_maximal.proofs.MaximalLemmas.{Within, from_list, not_in, meets_one, meets_from}
+use Rattle.gf_maximal.proofs.MaximalLemmas.{Within, from_list, not_in, intersects_one, intersects_from}
 use Rattle.gf_maximal.proofs.MaximalLemmas.{Contains-without}
 use Rattle.gf_maximal.proofs.PairLemmas.{AllPairs-append}
 use Rattle.gf_base.proofs.RisingLemmas.{one_rising, rising_nil}
@@ -82,45 +82,45 @@ module _ (hides : ℕ → Bool) (covers rivals : ℕ → ℕ → Bool) (us : Lis
   abbrev steps : List ℕ → List StepState
   steps xs = map (step_of hides covers rivals us) xs
 
-  alone : (x : ℕ) (g : List ℕ) → meets (x ∷ []) g ≡ true → Contains g x
-  alone x g t = let w = meets_one (x ∷ []) g t in elim (Contains-cons_cases x [] w.0 w.1) [
+  alone : (x : ℕ) (g : List ℕ) → intersects (x ∷ []) g ≡ true → Contains g x
+  alone x g t = let w = intersects_one (x ∷ []) g t in elim (Contains-cons_cases x [] w.0 w.1) [
     | inl e ↦ subst (Contains g) e w.2
     | inr n ↦ absurd (not_Contains-nil w.0 n)
   ]
 
-  alone_from : (x : ℕ) (g : List ℕ) → Contains g x → meets (x ∷ []) g ≡ true
-  alone_from x g i = meets_from (x ∷ []) g x (Contains-cons_head x []) i
+  alone_from : (x : ℕ) (g : List ℕ) → Contains g x → intersects (x ∷ []) g ≡ true
+  alone_from x g i = intersects_from (x ∷ []) g x (Contains-cons_head x []) i
 
   -- a rival of x in g
   abbrev Hit : List ℕ → ℕ → Type 0
   Hit g x = (b : ℕ) × Contains g b × (rivals x b ≡ true)
 
-  hit : (x : ℕ) (g : List ℕ) → meets (filter (rivals x) us) g ≡ true → Hit g x
-  hit x g t = let w = meets_one (filter (rivals x) us) g t in
+  hit : (x : ℕ) (g : List ℕ) → intersects (filter (rivals x) us) g ≡ true → Hit g x
+  hit x g t = let w = intersects_one (filter (rivals x) us) g t in
       (w.0, w.2, ((Contains-filter (rivals x) us w.0).0 w.1).1)
 
-  hit_from : (x : ℕ) (g : List ℕ) → Within g us → Hit g x → meets (filter (rivals x) us) g ≡ true
-  hit_from x g within w = meets_from (filter (rivals x) us) g w.0
+  hit_from : (x : ℕ) (g : List ℕ) → Within g us → Hit g x → intersects (filter (rivals x) us) g ≡ true
+  hit_from x g within w = intersects_from (filter (rivals x) us) g w.0
       ((Contains-filter (rivals x) us w.0).1 (within w.0 w.1, w.2)) w.1
 
   -- g has one that covers x
   abbrev Cover : List ℕ → ℕ → Type 0
   Cover g x = (b : ℕ) × Contains g b × (covers x b ≡ true)
 
-  cover : (x : ℕ) (g : List ℕ) → hides x ≡ true → meets (step x).covers g ≡ true → Cover g x
+  cover : (x : ℕ) (g : List ℕ) → hides x ≡ true → intersects (step x).covers g ≡ true → Cover g x
   cover x g h t =
       let e : (step x).covers ≡ filter (covers x) us = cond-true (hides x) (filter (covers x) us) []
       h in
-      let w = meets_one (filter (covers x) us) g (subst (λ z. meets z g ≡ true) e t) in
+      let w = intersects_one (filter (covers x) us) g (subst (λ z. intersects z g ≡ true) e t) in
       (w.0, w.2, ((Contains-filter (covers x) us w.0).0 w.1).1)
 
   cover_from : (x : ℕ) (g : List ℕ) → Within g us → hides x ≡ true → Cover g x
-      → meets (step x).covers g ≡ true
+      → intersects (step x).covers g ≡ true
   cover_from x g within h w =
       let e : (step x).covers ≡ filter (covers x) us = cond-true (hides x) (filter (covers x) us) []
       h in
-      subst (λ z. meets z g ≡ true) (sym e)
-      (meets_from (filter (covers x) us) g w.0
+      subst (λ z. intersects z g ≡ true) (sym e)
+      (intersects_from (filter (covers x) us) g w.0
       ((Contains-filter (covers x) us w.0).1 (within w.0 w.1, w.2)) w.1)
 
   -- x is chosen and covered, or left out for a rival
@@ -128,13 +128,13 @@ module _ (hides : ℕ → Bool) (covers rivals : ℕ → ℕ → Bool) (us : Lis
   Held g x = (Contains g x × (hides x ≡ true → Cover g x)) ⊎ Hit g x
 
   held : (x : ℕ) (g : List ℕ) → holds g (step x) ≡ true → Held g x
-  held x g t = elim (or_cases (meets (x ∷ []) g && (not (hides x) || meets (step x).covers g))
-      (meets (step x).rivals g) t) [
+  held x g t = elim (or_cases (intersects (x ∷ []) g && (not (hides x) || intersects (step x).covers g))
+      (intersects (step x).rivals g) t) [
         | inl a ↦
-            let w = and_parts (meets (x ∷ []) g) (not (hides x) || meets (step x).covers g) a in
+            let w = and_parts (intersects (x ∷ []) g) (not (hides x) || intersects (step x).covers g) a in
             inl (
               alone x g w.0,
-              λ h. elim (or_cases (not (hides x)) (meets (step x).covers g) w.1) [
+              λ h. elim (or_cases (not (hides x)) (intersects (step x).covers g) w.1) [
                 | inl n ↦ let no = not-true (hides x) n in absurd cc
                 | inr m ↦ cover x g h m
               ],
@@ -144,17 +144,17 @@ module _ (hides : ℕ → Bool) (covers rivals : ℕ → ℕ → Bool) (us : Lis
 
   held_from : (x : ℕ) (g : List ℕ) → Within g us → Held g x → holds g (step x) ≡ true
   held_from x g within (inl w) =
-      let covered : (not (hides x) || meets (step x).covers g) ≡ true = elim (cases_Bool (hides x)) [
-        | inl h ↦ or_second (not (hides x)) (meets (step x).covers g)
+      let covered : (not (hides x) || intersects (step x).covers g) ≡ true = elim (cases_Bool (hides x)) [
+        | inl h ↦ or_second (not (hides x)) (intersects (step x).covers g)
             (cover_from x g within h (w.1 h))
-        | inr n ↦ or_first (not (hides x)) (meets (step x).covers g) (not_from_false (hides x) n)
+        | inr n ↦ or_first (not (hides x)) (intersects (step x).covers g) (not_from_false (hides x) n)
       ] in
-      or_first (meets (x ∷ []) g && (not (hides x) || meets (step x).covers g))
-      (meets (step x).rivals g)
-      (and_from (meets (x ∷ []) g) (not (hides x) || meets (step x).covers g) (alone_from x g w.0)
+      or_first (intersects (x ∷ []) g && (not (hides x) || intersects (step x).covers g))
+      (intersects (step x).rivals g)
+      (and_from (intersects (x ∷ []) g) (not (hides x) || intersects (step x).covers g) (alone_from x g w.0)
       covered)
   held_from x g within (inr w) = or_second
-      (meets (x ∷ []) g && (not (hides x) || meets (step x).covers g)) (meets (step x).rivals g)
+      (intersects (x ∷ []) g && (not (hides x) || intersects (step x).covers g)) (intersects (step x).rivals g)
       (hit_from x g within w)
 
   -- ---- what a choice holds
@@ -238,7 +238,7 @@ module _ (hides : ℕ → Bool) (covers rivals : ℕ → ℕ → Bool) (us : Lis
           λ i. elim (decided a i) [ inl n ↦ absurd (not_Contains-nil a n) | inr j ↦ j ],
         )) in
         subst (Contains (p ∷ [])) (sym e) (Contains-cons_head p [])
-    found (x ∷ xs) p r all has decided = elim (cases_Bool (meets (x ∷ []) p)) [
+    found (x ∷ xs) p r all has decided = elim (cases_Bool (intersects (x ∷ []) p)) [
       | inl y ↦ elim (cases_Bool (is_in g x)) [
         | inl t ↦
             let q = without (filter (rivals x) us) p in
@@ -321,7 +321,7 @@ module _ (hides : ℕ → Bool) (covers rivals : ℕ → ℕ → Bool) (us : Lis
       few : (b : Bool) (g : List ℕ) → AllPairs (λ g k. g ≢ k) (cond b (g ∷ []) [])
       few true g = λ i j d l m. absurd (omega arith)
       few false g = λ i j d l m. absurd (omega arith)
-  once_from (x ∷ xs) p all within = elim (cases_Bool (meets (x ∷ []) p)) [
+  once_from (x ∷ xs) p all within = elim (cases_Bool (intersects (x ∷ []) p)) [
     | inl y ↦
         let is : Told (x ∷ xs) p ≡ Told xs (first (step x) p) ++ Told xs (second (step x) p) = ap
         (filter (all_hold (steps us))) (choices_in (step x) (steps xs) p y)

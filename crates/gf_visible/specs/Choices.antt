@@ -3,7 +3,7 @@ use Rattle.std.specs.Prelude.{◌≡◌, ◌≢◌, ◌↔◌, ℕ, Bool, true, 
 use Rattle.std.specs.Prelude.{◌||◌, cond}
 use Rattle.std.specs.Prelude.{List, [], ◌∷◌, ◌++◌, filter, map, AllPairs, Contains}
 use Rattle.std.specs.List.{list_all}
-use Rattle.gf_maximal.specs.Growing.{meets, without}
+use Rattle.gf_maximal.specs.Growing.{intersects, without}
 use Rattle.gf_maximal.specs.Tables.{IsLargest, IsRising}
 
 -- a position alone, whether it hides, the positions that cover it, and its rivals
@@ -15,7 +15,7 @@ pub record StepState : Type 0 where
 
 -- where the positions p are possible, the step may be chosen and covered, or left out for a rival
 abbrev pub holds : List ℕ → StepState → Bool
-holds p s = (meets s.own p && (not s.hides || meets s.covers p)) || meets s.rivals p
+holds p s = (intersects s.own p && (not s.hides || intersects s.covers p)) || intersects s.rivals p
 
 -- each of the steps holds where the positions p are possible
 abbrev pub all_hold : List StepState → List ℕ → Bool
@@ -33,7 +33,7 @@ second s p = cond s.hides (without s.rivals p) (without s.own p)
 abbrev pub choices : List StepState → List ℕ → List (List ℕ)
 choices [] p = p ∷ []
 choices (s ∷ steps) p =
-    cond (meets s.own p) (choices steps (first s p) ++ choices steps (second s p)) (choices steps p)
+    cond (intersects s.own p) (choices steps (first s p) ++ choices steps (second s p)) (choices steps p)
 
 -- the choices by these steps in which all hold
 abbrev pub answers : List StepState → List StepState → List ℕ → List (List ℕ)

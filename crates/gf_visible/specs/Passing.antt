@@ -3,7 +3,7 @@
 use Rattle.std.specs.Prelude.{◌≡◌, ◌<◌, ℕ, Bool, true, false, ◌&&◌, not, cond}
 use Rattle.std.specs.Prelude.{List, [], filter, map, length, Option, Some, None}
 use Rattle.std.specs.List.{list_all, fold}
-use Rattle.gf_maximal.specs.Growing.{is_in, joined, meets, without}
+use Rattle.gf_maximal.specs.Growing.{is_in, joined, intersects, without}
 use Rattle.gf_ops.specs.declared.op.Op.{Op}
 use Rattle.gf_visible.specs.Cuts.{has_some, rivals}
 use Rattle.gf_visible.specs.Deciding.{next_lasts}
@@ -13,7 +13,7 @@ use Rattle.gf_visible.specs.ShownAt.{hides_at}
 
 -- t has a number, and one of each wall
 abbrev pub is_seen : List (List ℕ) → List ℕ → Bool
-is_seen walls t = has_some t && list_all (λ wall. meets wall t) walls
+is_seen walls t = has_some t && list_all (λ wall. intersects wall t) walls
 
 -- found are all sets, if that is told; otherwise there are more than m of all
 abbrev pub AreFound : ℕ → List (List ℕ) → Bool → List (List ℕ) → Type 0
@@ -34,7 +34,7 @@ pub record GatheredState : Type 0 where
 abbrev pub with_hiding : List ℕ → ℕ → GatheredState → GatheredState
 with_hiding rivals f s = record {
   showings = s.showings;
-  gathered = cond (meets rivals s.showings) s.gathered (joined f s.gathered);
+  gathered = cond (intersects rivals s.showings) s.gathered (joined f s.gathered);
 }
 
 -- the position x gathered, if it is one of the showings

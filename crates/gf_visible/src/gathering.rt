@@ -51,7 +51,7 @@ impl Gathered {
         requires { hiding + 1 < 2 ^ 64 }
         ensures { OnOk result (self.new ≡ with_hiding rivals.now hiding self.old) }
     {
-        if !rivals.meets(&self.showings) {
+        if !rivals.intersects(&self.showings) {
             self.gathered.join(hiding)?;
         }
         Ok(())

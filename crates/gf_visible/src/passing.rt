@@ -5,7 +5,7 @@ ghost use Rattle.std.specs.Prelude.{map, option_map, slice_index_or};
 ghost use Rattle.std.specs.List.{list_any, list_all};
 ghost use Rattle.std.specs.List.Sorted.{IsStrictlySortedBy};
 ghost use Rattle.std.specs.Ordering.{nat_cmp};
-ghost use Rattle.gf_maximal.specs.Growing.{meets, without};
+ghost use Rattle.gf_maximal.specs.Growing.{intersects, without};
 ghost use Rattle.gf_visible.specs.Cuts.{has_some};
 ghost use Rattle.gf_visible.specs.OnePass.{put, puts};
 ghost use Rattle.gf_visible.specs.Passing.{AreFound, IsFoundWithin, found, is_seen};
@@ -18,10 +18,10 @@ use gf_shape::OutOfMemory;
 use std::alloc::Global;
 
 /// Whether the set has a number of each wall.
-fn meets_all(walls: &[Numbers], set: &Numbers) -> bool
-    ensures { result ≡ list_all (λ wall. meets wall set.now) walls.now }
+fn intersects_all(walls: &[Numbers], set: &Numbers) -> bool
+    ensures { result ≡ list_all (λ wall. intersects wall set.now) walls.now }
 {
-    walls.iter().all(|wall| wall.meets(set))
+    walls.iter().all(|wall| wall.intersects(set))
 }
 
 fn has_some(set: &Numbers) -> bool
@@ -34,7 +34,7 @@ fn has_some(set: &Numbers) -> bool
 fn is_seen(walls: &[Numbers], set: &Numbers) -> bool
     ensures { result ≡ is_seen walls.now set.now }
 {
-    has_some(set) && meets_all(walls, set)
+    has_some(set) && intersects_all(walls, set)
 }
 
 /// Whether the set is one of these.
@@ -66,7 +66,7 @@ fn put_rest(
     ensures { (d : _) → OnOk result (found.new.items ≡ put (is_seen walls.now) found.old.items
         (without rivals.now (slice_index_or found.old.items index d))) }
 {
-    if !rivals.meets(&found[index]) {
+    if !rivals.intersects(&found[index]) {
         return Ok(());
     }
     let rest = found[index].without(alloc, rivals)?;

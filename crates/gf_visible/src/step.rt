@@ -1,7 +1,7 @@
 //! One position, which a choice takes or leaves out.
 
 ghost use Rattle.std.specs.Prelude.{◌≡◌, IfOk};
-ghost use Rattle.gf_maximal.specs.Growing.{meets};
+ghost use Rattle.gf_maximal.specs.Growing.{intersects};
 ghost use Rattle.gf_visible.specs.Choices.{first, holds, second};
 
 use gf_maximal::Numbers;
@@ -42,9 +42,9 @@ impl Step {
 
     /// Whether the position is still possible.
     pub(crate) fn is_among(&self, possible: &Numbers) -> bool
-        ensures { result ≡ meets self.now.own possible.now }
+        ensures { result ≡ intersects self.now.own possible.now }
     {
-        self.own.meets(possible)
+        self.own.intersects(possible)
     }
 
     /// What is possible once the position is left out if it hides, or chosen if it does not.
@@ -73,7 +73,7 @@ impl Step {
     pub(crate) fn holds(&self, possible: &Numbers) -> bool
         ensures { result ≡ holds possible.now self.now }
     {
-        (self.own.meets(possible) && (!self.hides || self.covers.meets(possible)))
-            || self.rivals.meets(possible)
+        (self.own.intersects(possible) && (!self.hides || self.covers.intersects(possible)))
+            || self.rivals.intersects(possible)
     }
 }

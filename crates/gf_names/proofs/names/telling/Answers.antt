@@ -1,7 +1,7 @@
 use Rattle.std.proofs.Common.{sym, subst, ◌∙◌}
 use Rattle.std.specs.Prelude.{◌<◌, ◌↔◌, List, Contains}
 use Rattle.gf_ops.specs.declared.op.OpId.{OpId}
-use Rattle.gf_names.specs.LastMeeting.{AreOfOneSite}
+use Rattle.gf_names.specs.LastConflict.{AreOfOneSite}
 use Rattle.gf_names.proofs.TellingLemmas.{Tells, site_first, site_more, site_last, one_site}
 use Rattle.gf_names.proofs.names.telling.Goals as goal
 

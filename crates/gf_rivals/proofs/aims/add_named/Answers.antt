@@ -5,7 +5,7 @@ use Rattle.gf_rivals.proofs.aims.add_named.Goals as goal
 
 pub returns-in-Some : goal.returns-in-Some
 returns-in-Some c =
-    on_ok_weaker c.join.result (λ e. adds_number c.args.history.now.ops c.args.chains.now c.args.id
+    on_ok_weaker c.join.result (λ e. adds_number c.args.history.now.ops c.args.logs.now c.args.id
     c.in-Some.number c.args.numbers.now c.join.new.self c.in-Some.ensures.some c.in-Some.ensures.all
     e) c.join.ensures.ok
 

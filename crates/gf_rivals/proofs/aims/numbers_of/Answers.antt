@@ -3,11 +3,11 @@ use Rattle.gf_rivals.proofs.aims.numbers_of.Goals as goal
 
 pub loop-id-preserved : goal.loop-id-preserved
 loop-id-preserved c =
-    numbers_more c.args.history.now.ops c.args.chains.now c.args.ids.now c.loop-id.numbers
+    numbers_more c.args.history.now.ops c.args.logs.now c.args.ids.now c.loop-id.numbers
     c.add_named.new.numbers c.loop-id.id-index (record { site = 0; seq = 0 }) c.loop-id-test.true
     c.loop-id.invariant
     c.in_ok-add_named.ensures
 
 pub returns : goal.returns
-returns c = numbers_all c.args.history.now.ops c.args.chains.now c.args.ids.now c.loop-id.numbers
+returns c = numbers_all c.args.history.now.ops c.args.logs.now c.args.ids.now c.loop-id.numbers
     c.loop-id.id-index c.loop-id-test.false c.loop-id.invariant

@@ -3,4 +3,4 @@ use Rattle.gf_rivals.specs.Aimed.{AreNumbersOf}
 use Rattle.gf_rivals.proofs.aims.numbers_of.Given as goal
 
 abbrev pub invariant-loop-id : goal.invariant-loop-id
-invariant-loop-id l = AreNumbersOf l.history.ops l.chains (take l.id-index l.ids) l.numbers
+invariant-loop-id l = AreNumbersOf l.history.ops l.logs (take l.id-index l.ids) l.numbers

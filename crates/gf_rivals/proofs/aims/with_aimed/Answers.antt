@@ -1,5 +1,5 @@
 use Rattle.std.proofs.Common.{◌≡◌, true, subst}
-use Rattle.gf_maximal.specs.Growing.{meets}
+use Rattle.gf_maximal.specs.Growing.{intersects}
 use Rattle.gf_rivals.specs.Aimed.{AimedState}
 use Rattle.gf_rivals.specs.Comparing.{AddsIf}
 use Rattle.gf_rivals.proofs.AimedLemmas.{aimed_more, aimed_all}
@@ -10,7 +10,7 @@ loop-operation-preserved c =
     aimed_more c.args.numbers c.args.aimed.now c.loop-operation.found c.join_to.new.found
     c.loop-operation.operation-index c.operation-item.result c.loop-operation-test.true
     c.loop-operation.invariant
-    (subst (λ (z : AimedState). AddsIf (meets z.aim c.args.numbers ≡ true) z.number
+    (subst (λ (z : AimedState). AddsIf (intersects z.aim c.args.numbers ≡ true) z.number
     c.loop-operation.found c.join_to.new.found) c.operation-item.is c.in_ok-join_to.ensures)
 
 pub returns : goal.returns

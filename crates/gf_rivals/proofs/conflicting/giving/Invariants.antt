@@ -6,4 +6,4 @@ use Rattle.gf_rivals.proofs.conflicting.giving.Given as goal
 abbrev pub invariant-loop-number : goal.invariant-loop-number
 invariant-loop-number l = (n : ℕ)
     → Contains l.some n ↔ (Contains (take l.number-index l.number-items) n
-    × (number_gives l.ops l.chains l.value n ≡ true))
+    × (number_gives l.ops l.logs l.value n ≡ true))

@@ -4,7 +4,7 @@ use Rattle.gf_rivals.proofs.index.add_setters.Goals as goal
 
 pub loop-index-preserved : goal.loop-index-preserved
 loop-index-preserved c =
-    lists_more c.args.ops.now c.args.setters.now c.args.chain c.loop-index.index
+    lists_more c.args.ops.now c.args.setters.now c.args.log c.loop-index.index
     c.number-number.result
     (record { seq = 0; position = 0 }) c.args.numbers.now.entries c.loop-index.numbers.entries
     c.add_setter.new.numbers.entries
@@ -15,6 +15,6 @@ pub returns : goal.returns
 returns c =
     let l = c.loop-index.auto.index-end in
     let m = c.loop-index-test.false in
-    lists_all c.args.ops.now c.args.setters.now c.args.chain c.loop-index.index
+    lists_all c.args.ops.now c.args.setters.now c.args.log c.loop-index.index
     c.args.numbers.now.entries c.loop-index.numbers.entries (omega (arith, l, m))
     c.loop-index.invariant

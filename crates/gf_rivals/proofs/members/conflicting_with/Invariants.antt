@@ -6,7 +6,7 @@ use Rattle.gf_rivals.specs.Members.{AreMembersOf}
 use Rattle.gf_rivals.proofs.members.conflicting_with.Given as goal
 
 abbrev pub invariant-loop-number : goal.invariant-loop-number
-invariant-loop-number l = (o : ObjectId) → AreMembersOf l.history.ops o l.chains l.others
+invariant-loop-number l = (o : ObjectId) → AreMembersOf l.history.ops o l.logs l.others
     l.members.items
     → (n : ℕ) → Contains l.found n ↔ (Contains (take l.number-index l.number-items) n
-    × ConflictsWithOne l.history.ops l.chains l.others n)
+    × ConflictsWithOne l.history.ops l.logs l.others n)

@@ -7,7 +7,7 @@ use Rattle.gf_rivals.proofs.members.give_others.Goals as goal
 pub returns-in-Some : goal.returns-in-Some
 returns-in-Some c =
     let h = c.args.history.now.ops in
-    let gives = subst (λ (z : List Op). c.number_gives.result ≡ number_gives z c.args.chains.now
+    let gives = subst (λ (z : List Op). c.number_gives.result ≡ number_gives z c.args.logs.now
     c.in-Some.value.now c.args.other) c.ops.ensures.ops c.number_gives.ensures.value in
-    others_differ h c.args.chains.now c.args.number c.args.other c.in-Some.value.now
+    others_differ h c.args.logs.now c.args.number c.args.other c.in-Some.value.now
     c.number_gives.result c.in-Some.ensures gives

@@ -15,5 +15,5 @@ returns-in-Some-clause-ok c =
     let one = subst (λ components. IsOneTouched d c.args.number components i) c.deref.ensures.value
     c.in-Some.ensures in
     one_connected c.grow_one.result d c.args.number s c.args.self.now i
-    c.grow_one.new.components.items one (sym c.if-not-meets.ensures) c.self.view_is
+    c.grow_one.new.components.items one (sym c.if-not-intersects.ensures) c.self.view_is
     c.grow_one.ensures.ok

@@ -7,4 +7,4 @@ use Rattle.gf_rivals.proofs.index.Index.of.Given as goal
 
 abbrev pub invariant-loop-index : goal.invariant-loop-index
 invariant-loop-index l = (p : Fingerprint) (n : ℕ) → Contains (numbers_at l.numbers.entries p) n
-    ↔ IsListedBelow l.ops l.chains l.index p n
+    ↔ IsListedBelow l.ops l.logs l.index p n

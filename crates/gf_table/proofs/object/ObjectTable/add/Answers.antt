@@ -6,7 +6,7 @@ use Rattle.gf_rivals.specs.Aimed.{AimedState, AreNumbersOf}
 use Rattle.gf_rivals.specs.Indexes.{IsIndex}
 use Rattle.gf_table.specs.ObjectState.{ObjectState, with_grown}
 use Rattle.gf_table.specs.Standing.{IsStateOf}
-use Rattle.gf_table.proofs.MetLemmas.{aim_named, conflicts_of}
+use Rattle.gf_table.proofs.RivalOfAimLemmas.{aim_named, conflicts_of}
 use Rattle.gf_table.proofs.StateLemmas.{behind, if_some, index_there, state_added}
 use Rattle.gf_table.proofs.object.ObjectTable.add.Goals as goal
 
@@ -14,7 +14,7 @@ pub numbers_of-requires : goal.numbers_of-requires
 numbers_of-requires c =
     let n = c.requires in
     let t : ObjectState = record {
-      chains = c.self.inside.chains;
+      logs = c.self.inside.logs;
       index = c.self.inside.index;
       aimed = c.self.inside.aimed.items;
       components = c.self.inside.components;
@@ -23,28 +23,28 @@ numbers_of-requires c =
     let s : IsStateOf c.args.history.now.ops n.object t = subst
     (IsStateOf c.args.history.now.ops n.object) (sym c.self.view_is) n.state in
     aim_named c.args.history.now.ops n.valid c.args.op.now n.accepted.aimed n.object
-    (ap (changed_object c.args.op.now.id) n.change) t.chains s.chained c.aim.result.now
+    (ap (changed_object c.args.op.now.id) n.change) t.logs s.logs c.aim.result.now
     c.aim.ensures
 
 pub rivals-requires-clause-aim : goal.rivals-requires-clause-aim
 rivals-requires-clause-aim c =
     let t : ObjectState = record {
-      chains = c.self.inside.chains;
+      logs = c.self.inside.logs;
       index = c.self.inside.index;
       aimed = c.self.inside.aimed.items;
       components = c.self.inside.components;
       maker = c.self.inside.maker;
     } in
-    let told = subst (λ (z : List OpId). AreNumbersOf c.args.history.now.ops t.chains z
+    let told = subst (λ (z : List OpId). AreNumbersOf c.args.history.now.ops t.logs z
     c.in_ok-aim.aim) c.aim.ensures c.in_ok-aim.ensures in
-    subst (λ (z : ObjectState). AreNumbersOf c.args.history.now.ops z.chains (aim_of c.args.op.now)
+    subst (λ (z : ObjectState). AreNumbersOf c.args.history.now.ops z.logs (aim_of c.args.op.now)
     c.in_ok-aim.aim) c.self.view_is told
 
 pub grow-requires-clause-last : goal.grow-requires-clause-last
 grow-requires-clause-last c =
     let n = c.requires in
     let t : ObjectState = record {
-      chains = c.self.inside.chains;
+      logs = c.self.inside.logs;
       index = c.self.inside.index;
       aimed = c.self.inside.aimed.items;
       components = c.self.inside.components;
@@ -62,7 +62,7 @@ returns-in-Ok-clause-ok c = λ o aim e.
     let a = c.args.op.now in
     let same : n.object ≡ o = ap (changed_object a.id) (sym n.change ∙ e) in
     let t : ObjectState = record {
-      chains = c.self.inside.chains;
+      logs = c.self.inside.logs;
       index = c.self.inside.index;
       aimed = c.self.inside.aimed.items;
       components = c.self.inside.components;
@@ -71,22 +71,22 @@ returns-in-Ok-clause-ok c = λ o aim e.
     let s : IsStateOf h n.object t = subst (IsStateOf h n.object) (sym c.self.view_is) n.state in
     let rivals = conflicts_of h a c.args.self.now t (sym c.self.view_is) c.in_ok-rivals.rivals
     c.in_ok-rivals.ensures.rivals in
-    let made = subst (λ (z : ObjectState). IfSome c.in_ok-rivals.made (IsIndex h z.chains))
+    let made = subst (λ (z : ObjectState). IfSome c.in_ok-rivals.made (IsIndex h z.logs))
     (sym c.self.view_is) c.in_ok-rivals.ensures.made in
     let us = c.in_ok-aim.aim in
-    let are = subst (λ (z : List OpId). AreNumbersOf h t.chains z us) c.aim.ensures
+    let are = subst (λ (z : List OpId). AreNumbersOf h t.logs z us) c.aim.ensures
     c.in_ok-aim.ensures in
     let number = c.next_number-number.result in
     let position = length c.ops-position.result.now in
     let pushed : ObjectState = record {
-      chains = t.chains;
+      logs = t.logs;
       index = t.index;
       aimed = c.push_aimed.new.aimed.items;
       components = t.components;
       maker = t.maker;
     } in
     let now : ObjectState = record {
-      chains = c.self-2.inside.chains;
+      logs = c.self-2.inside.logs;
       index = c.self-2.inside.index;
       aimed = c.self-2.inside.aimed.items;
       components = c.self-2.inside.components;
@@ -98,14 +98,14 @@ returns-in-Ok-clause-ok c = λ o aim e.
     let index = if_some i (λ new w. (
       w.0,
       elim w.1 [
-        | inl m ↦ subst (λ r. IfSome r (IsIndex h t.chains)) m made
+        | inl m ↦ subst (λ r. IfSome r (IsIndex h t.logs)) m made
         | inr k ↦ index_there h n.object t s w.0 (sym (ap (λ (z : ObjectState). z.index) grown)
             ∙ (sym c.take-kept.ensures.value ∙ k))
       ],
       w.2,
     )) c.with_setter.ensures in
     let whole : record {
-      chains = now.chains;
+      logs = now.logs;
       index = i;
       aimed = now.aimed;
       components = now.components;
@@ -113,7 +113,7 @@ returns-in-Ok-clause-ok c = λ o aim e.
     } ≡ _ =
     ap (λ (z : ObjectState).
     record {
-      chains = z.chains;
+      logs = z.logs;
       index = i;
       aimed = z.aimed;
       components = z.components;
@@ -121,7 +121,7 @@ returns-in-Ok-clause-ok c = λ o aim e.
     }) grown
     ∙ ap (λ (es : List AimedState). (let w : ObjectState = with_grown c.attribute-attribute.result
     a.id position number c.in_ok-rivals.rivals pushed in record {
-      chains = w.chains;
+      logs = w.logs;
       index = i;
       aimed = es;
       components = w.components;
@@ -133,7 +133,7 @@ returns-in-Ok-clause-ok c = λ o aim e.
     (ap length c.ops-position.ensures.ops) i index _ whole in
     subst (λ z. IsStateOf (h ++ a ∷ []) z
     (record {
-      chains = now.chains;
+      logs = now.logs;
       index = i;
       aimed = now.aimed;
       components = now.components;
@@ -143,21 +143,21 @@ returns-in-Ok-clause-ok c = λ o aim e.
 pub returns-clause-err : goal.returns-clause-err
 returns-clause-err c =
     let t : ObjectState = record {
-      chains = c.self.inside.chains;
+      logs = c.self.inside.logs;
       index = c.self.inside.index;
       aimed = c.self.inside.aimed.items;
       components = c.self.inside.components;
       maker = c.self.inside.maker;
     } in
     let pushed : ObjectState = record {
-      chains = t.chains;
+      logs = t.logs;
       index = t.index;
       aimed = c.push_aimed.new.aimed.items;
       components = t.components;
       maker = t.maker;
     } in
     let now : ObjectState = record {
-      chains = c.self-2.inside.chains;
+      logs = c.self-2.inside.logs;
       index = c.self-2.inside.index;
       aimed = c.self-2.inside.aimed.items;
       components = c.self-2.inside.components;
@@ -168,7 +168,7 @@ returns-clause-err c =
     (ap (λ (z : ObjectState). z.aimed) same ∙ c.in_ok-push_aimed.ensures.ok) in
     ap (λ (z : ObjectState).
     record {
-      chains = z.chains;
+      logs = z.logs;
       index = z.index;
       aimed = c.pop_aimed.new.aimed.items;
       components = z.components;
@@ -176,7 +176,7 @@ returns-clause-err c =
     }) same
     ∙ (ap (λ (es : List AimedState).
     record {
-      chains = t.chains;
+      logs = t.logs;
       index = t.index;
       aimed = es;
       components = t.components;

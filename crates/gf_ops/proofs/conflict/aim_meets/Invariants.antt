@@ -1,6 +1,0 @@
-use Rattle.gf_ops.specs.AimTests.{MemberMeets}
-use Rattle.gf_ops.proofs.AimLemmas.{AllBefore}
-use Rattle.gf_ops.proofs.conflict.aim_meets.Given as goal
-
-abbrev pub invariant-loop-id : goal.invariant-loop-id
-invariant-loop-id l = AllBefore (λ i. ¬ (MemberMeets l.history.ops i l.b)) l.aim l.id-index

@@ -1,6 +1,0 @@
-use Rattle.gf_ops.specs.AimTests.{MeetsAt}
-use Rattle.gf_ops.proofs.AimLemmas.{AllBefore}
-use Rattle.gf_ops.proofs.history.History.meets.Given as goal
-
-abbrev pub invariant-loop-id : goal.invariant-loop-id
-invariant-loop-id l = AllBefore (λ i. ¬ (MeetsAt l.self.ops l.op i)) l.ids l.id-index
