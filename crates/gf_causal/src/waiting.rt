@@ -49,6 +49,6 @@ fn needed(op: &Op, site: u8) -> u32
 fn entry(past: Clock, site: u8) -> u32
     ensures { result ≡ entry past site }
 {
-    let place = usize::from(site).saturating_sub(1);
-    past.0.get(place).copied().unwrap_or(0)
+    let index = usize::from(site).saturating_sub(1);
+    past.0.get(index).copied().unwrap_or(0)
 }

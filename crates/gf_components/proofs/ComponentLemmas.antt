@@ -26,7 +26,8 @@ use Rattle.gf_maximal.proofs.LargestLemmas.{IsConflict}
 use Rattle.gf_base.proofs.FilterLemmas.{Contains-filter}
 use Rattle.gf_base.proofs.RisingLemmas.{rising_nil}
 use Rattle.gf_maximal.proofs.PairLemmas.{Pairs-append, Pairs-filter}
-use Rattle.gf_maximal.proofs.MaximalLemmas.{in_list, from_list, out_of, intersects_from, intersects_none}
+use Rattle.gf_maximal.proofs.MaximalLemmas.{in_list, from_list, out_of, intersects_from}
+use Rattle.gf_maximal.proofs.MaximalLemmas.{intersects_none}
 use Rattle.gf_maximal.proofs.MaximalLemmas.{Contains-without}
 use Rattle.gf_maximal.proofs.GrowingLemmas.{Comes}
 use Rattle.gf_maximal.proofs.UnitedLemmas.{Contains-united, united_rises}
@@ -261,7 +262,8 @@ module _ (c : ℕ → ℕ → Bool) where
             | inl f ↦ inl ((singles a).1 (f, h))
             | inr w ↦ inr (
               w.0,
-              (Contains-filter (touches d) t.components w.0).1 (w.1, intersects_from d w.0.all a h w.2),
+              (Contains-filter (touches d) t.components w.0).1
+                  (w.1, intersects_from d w.0.all a h w.2),
               w.2,
             )
           ])

@@ -14,7 +14,8 @@ use Rattle.gf_base.proofs.ListLemmas.{Contains-cons_cases, Contains-cons_head, C
 use Rattle.gf_base.proofs.ListLemmas.{not_Contains-nil}
 use Rattle.gf_base.proofs.FilterLemmas.{Contains-filter}
 use Rattle.gf_base.proofs.RisingLemmas.{rising_front, rising_below, never_both}
-use Rattle.gf_maximal.specs.Growing.{intersects, is_disjoint, without, joined, maximal, united, next}
+use Rattle.gf_maximal.specs.Growing.{intersects, is_disjoint, without, joined, maximal, united}
+use Rattle.gf_maximal.specs.Growing.{next}
 use Rattle.gf_maximal.specs.Tables.{IsRising, IsTable}
 use Rattle.gf_maximal.proofs.GrowingLemmas.{Comes, table_first, table_next}
 use Rattle.gf_maximal.proofs.LargestLemmas.{IsConflict}

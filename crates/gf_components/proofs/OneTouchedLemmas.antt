@@ -129,8 +129,8 @@ found_first d components i z e = let w = position-Some (touches d) components i 
     (w.0, none_before (touches d) z components i w.0 w.2)
 
 pub one_connected : {A B : Type 0} (r : Result A B) (d : List ℕ) (x : ℕ) (s t : ComponentsState)
-    (i : ℕ) (new : List ComponentState) → IsOneTouched d x s.components i → intersects d s.free ≡ false
-    → s ≡ t →
+    (i : ℕ) (new : List ComponentState) → IsOneTouched d x s.components i
+    → intersects d s.free ≡ false → s ≡ t →
     OnOk r ((component : ComponentState) (behind : List ComponentState)
     → drop i s.components ≡ component ∷ behind → new ≡ (take i s.components ++ behind) ++ grown d x
     component ∷ []) → OnOk r (record { free = s.free; components = new } ≡ connected d x t)

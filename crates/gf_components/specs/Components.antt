@@ -4,7 +4,8 @@ use Rattle.std.specs.Prelude.{List, [], ◌∷◌, ◌++◌}
 use Rattle.std.specs.Prelude.{filter, map, length, Option, Some, None}
 use Rattle.std.specs.List.{fold, flat_map}
 use Rattle.gf_components.specs.declared.sets.TheConstants.{MOST_SETS}
-use Rattle.gf_maximal.specs.Growing.{is_in, intersects, is_disjoint, without, common, joined, united, next}
+use Rattle.gf_maximal.specs.Growing.{is_in, intersects, is_disjoint, without, common, joined}
+use Rattle.gf_maximal.specs.Growing.{united, next}
 
 -- a component keeps at most this many sets
 abbrev pub most_sets : ℕ

@@ -52,6 +52,6 @@ fn is_blocking(history: &History, editor: u8, op: &Op) -> bool
 fn entry(past: Clock, site: u8) -> u32
     ensures { result ≡ entry past site }
 {
-    let place = usize::from(site).saturating_sub(1);
-    past.0.get(place).copied().unwrap_or(0)
+    let index = usize::from(site).saturating_sub(1);
+    past.0.get(index).copied().unwrap_or(0)
 }

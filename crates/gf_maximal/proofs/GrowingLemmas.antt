@@ -24,7 +24,8 @@ use Rattle.gf_maximal.proofs.ExtendingLemmas.{extended}
 use Rattle.gf_maximal.proofs.PairLemmas.{AllPairs-append, AllPairs-map, AllPairs-from_Pairs}
 use Rattle.gf_maximal.proofs.PairLemmas.{Pairs-from, Pairs-two}
 use Rattle.gf_maximal.proofs.MaximalLemmas.{Within, Apart, IsMaximal, maximal_is, in_list}
-use Rattle.gf_maximal.proofs.MaximalLemmas.{from_list, is_within_from, intersects_one, intersects_from}
+use Rattle.gf_maximal.proofs.MaximalLemmas.{from_list, is_within_from, intersects_one}
+use Rattle.gf_maximal.proofs.MaximalLemmas.{intersects_from}
 use Rattle.gf_maximal.proofs.MaximalLemmas.{intersects_none, Contains-without}
 
 -- nothing has one set, the empty one
@@ -161,7 +162,8 @@ module _ (c : ℕ → ℕ → Bool) (s : IsConflict c) (us : List ℕ) (x : ℕ)
     λ h. (has g a).1 (elim ((comes.exactly a).0 (m.1.within a h))
         [ inl u ↦ inl (w a h u) | inr e ↦ inr e ]),
     λ h. elim (m.1.largest a
-        ((comes.exactly a).1 (elim ((has g a).0 h) [ inl i ↦ inl (k.inside a i) | inr e ↦ inr e ]))) [
+        ((comes.exactly a).1 (elim
+        ((has g a).0 h) [ inl i ↦ inl (k.inside a i) | inr e ↦ inr e ]))) [
           | inl i ↦ i
           | inr v ↦
               let other : Contains (joined x g) v.0 = (has g v.0).1
@@ -208,7 +210,8 @@ module _ (c : ℕ → ℕ → Bool) (s : IsConflict c) (us : List ℕ) (x : ℕ)
             rising = m.0;
             inside = m.1.within;
             compatible = m.1.compatible;
-            avoids = λ a i. calm a (m.1.within a i) (intersects_none d g (not-true (intersects d g) w.1) a i);
+            avoids = λ a i. calm a (m.1.within a i)
+                (intersects_none d g (not-true (intersects d g) w.1) a i);
           },
         )
 
@@ -246,10 +249,11 @@ module _ (c : ℕ → ℕ → Bool) (s : IsConflict c) (us : List ℕ) (x : ℕ)
         → Within k r
     no_larger r k h (inl i) w = let n = most.free r k h i in let y = is_within_from r k w in
         absurd cc
-    no_larger r k h (inr i) w = elim (Pairs-two Apart news (λ a b p. (p.1, p.0)) most.apart r k h i) [
-      | inl e ↦ λ a j. subst (λ z. Contains z a) (sym e) j
-      | inr p ↦ let n = p.0 in let y = is_within_from r k w in absurd cc
-    ]
+    no_larger r k h (inr i) w =
+        elim (Pairs-two Apart news (λ a b p. (p.1, p.0)) most.apart r k h i) [
+          | inl e ↦ λ a j. subst (λ z. Contains z a) (sym e) j
+          | inr p ↦ let n = p.0 in let y = is_within_from r k w in absurd cc
+        ]
 
     -- what could join a new one is in it
     closed : (r : List ℕ) (a : ℕ) → Contains news r → Contains us a → c a x ≡ false

@@ -46,7 +46,8 @@ intersects_one d g t = let w = list_any_true (is_in d) g t in (w.0, from_list d 
 pub intersects_from : (d g : List ℕ) (a : ℕ) → Contains d a → Contains g a → intersects d g ≡ true
 intersects_from d g a h i = list_any_from (is_in d) g a i (in_list d a h)
 
-pub intersects_none : (d g : List ℕ) → intersects d g ≡ false → (a : ℕ) → Contains g a → ¬ (Contains d a)
+pub intersects_none : (d g : List ℕ) → intersects d g ≡ false → (a : ℕ) → Contains g a
+    → ¬ (Contains d a)
 intersects_none d g n a h = not_in d a (list_any_false (is_in d) g n a h)
 
 pub Contains-without : (d g : List ℕ) (a : ℕ)

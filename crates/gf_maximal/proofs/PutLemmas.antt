@@ -27,7 +27,8 @@ use Rattle.gf_maximal.proofs.RunLemmas.{nat_lt_false}
 use Rattle.gf_maximal.proofs.RunSetLemmas.{In, Has, in_range, in_numbers, in_members, range_rises}
 use Rattle.gf_maximal.proofs.RunSetLemmas.{members_rise, members_are, after_runs, piece_has}
 use Rattle.gf_maximal.proofs.RunSetLemmas.{piece_runs, rest, cut_is, bool_same, inside_true}
-use Rattle.gf_maximal.proofs.RunSetLemmas.{inside_from, touches_is, covers_is, intersects_is, within_is}
+use Rattle.gf_maximal.proofs.RunSetLemmas.{inside_from, touches_is, covers_is, intersects_is}
+use Rattle.gf_maximal.proofs.RunSetLemmas.{within_is}
 use Rattle.gf_maximal.proofs.RunSetLemmas.{list_any_same}
 
 -- ---- one more number
@@ -290,7 +291,8 @@ pub covers_told : (r : Run) (qs ss : List Run) (g : List ℕ) (t : Bool) → ss 
 covers_told r qs ss g t e w v k = rw (← v) (subst (λ z. t ≡ covers z r) e k ∙ covers_is qs r w)
 
 pub intersects_told : (rs qs rs2 qs2 : List Run) (k g : List ℕ) (t : Bool) → rs2 ≡ rs → qs2 ≡ qs
-    → AreRuns qs → members rs ≡ k → members qs ≡ g → t ≡ list_any (touches qs2) rs2 → t ≡ intersects k g
+    → AreRuns qs → members rs ≡ k → members qs ≡ g → t ≡ list_any (touches qs2) rs2
+    → t ≡ intersects k g
 intersects_told rs qs rs2 qs2 k g t e f w v u h = rw (← v, ← u)
     (h ∙ (ap (λ z. list_any (touches z) rs2) f ∙ (ap (list_any (touches qs)) e
     ∙ (list_any_same (touches qs) (λ r. list_any (is_inside r) (members qs))

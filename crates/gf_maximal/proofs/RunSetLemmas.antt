@@ -158,10 +158,14 @@ Has-append (p ∷ ps) qs a = (
 pub after_has : (n : ℕ) (rs : List Run) (a : ℕ) → n ≤ a → Has (after n rs) a ↔ Has rs a
 after_has n [] a l = (λ h. h, λ h. h)
 after_has n (r ∷ rs) a l = elim (cases_Bool (nat_le r.end n)) [
-  | inl t ↦ let m = nat_le_true r.end n t in rw (cond-true (nat_le r.end n) (after n rs) (r ∷ rs) t) (
-    λ h. inr ((after_has n rs a l).0 h),
-    λ h. elim h [ inl i ↦ let k = i.1 in absurd (omega arith) | inr i ↦ (after_has n rs a l).1 i ],
-  )
+  | inl t ↦ let m = nat_le_true r.end n t in
+      rw (cond-true (nat_le r.end n) (after n rs) (r ∷ rs) t) (
+        λ h. inr ((after_has n rs a l).0 h),
+        λ h. elim h [
+          | inl i ↦ let k = i.1 in absurd (omega arith)
+          | inr i ↦ (after_has n rs a l).1 i
+        ],
+      )
   | inr f ↦ rw (cond-false (nat_le r.end n) (after n rs) (r ∷ rs) f) (λ h. h, λ h. h)
 ]
 
@@ -473,9 +477,10 @@ covers_is qs r w = bool_same (covers qs r) (list_all (is_in (members qs)) (numbe
     ])
 
 -- some run of d holds one of g
-pub intersects_is : (rs : List Run) (g : List ℕ) → list_any (λ r. list_any (is_inside r) g) rs ≡ intersects
-    (members rs) g
-intersects_is rs g = bool_same (list_any (λ r. list_any (is_inside r) g) rs) (intersects (members rs) g)
+pub intersects_is : (rs : List Run) (g : List ℕ) → list_any (λ r. list_any (is_inside r) g) rs
+    ≡ intersects (members rs) g
+intersects_is rs g = bool_same (list_any (λ r. list_any (is_inside r) g) rs)
+    (intersects (members rs) g)
     (λ t. let o = list_any_true (λ r. list_any (is_inside r) g) rs t in
     let p = list_any_true (is_inside o.0) g o.2 in
     list_any_from (is_in (members rs)) g p.0 p.1

@@ -1,7 +1,8 @@
 -- A set of numbers as runs of numbers that follow each other.
 use Rattle.std.specs.Prelude.{◌≡◌, ◌≤◌, max, true, length, slice_index_or, ℕ, ◌+◌}
 use Rattle.std.specs.Prelude.{◌-◌, ◌<◌}
-use Rattle.std.specs.Prelude.{Bool, cond, ◌==◌, ◌&&◌, ◌||◌, nat_eq, nat_le, nat_lt, List, []}
+use Rattle.std.specs.Prelude.{Bool, cond, ◌==◌, ◌&&◌, ◌||◌, nat_eq, nat_le, nat_lt}
+use Rattle.std.specs.Prelude.{List, []}
 use Rattle.std.specs.Prelude.{◌∷◌}
 use Rattle.std.specs.Prelude.{◌++◌, Contains, ⊤, false}
 use Rattle.std.specs.List.{flat_map, range_with_len, fold}

@@ -63,7 +63,8 @@ fn maximal_remainders(
     others: &[Numbers],
 ) -> Result<Vec<Numbers>, OutOfMemory>
     ensures { IfOk result (λ found. found.items
-        ≡ maximal others.now (map (without numbers.now) (filter (intersects numbers.now) sets.now))) }
+        ≡ maximal others.now
+        (map (without numbers.now) (filter (intersects numbers.now) sets.now))) }
 {
     let mut taken = Vec::new(alloc);
     for set in sets {

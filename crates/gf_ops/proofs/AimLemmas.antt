@@ -2,7 +2,7 @@
 -- rises.
 use Rattle.std.proofs.Common.{◌≡◌, ◌≢◌, ℕ, ◌<◌, ◌≤◌, Bool, true, false, ◌&&◌, ◌==◌, List, [], ◌∷◌}
 use Rattle.std.proofs.Common.{refl, sym, ap, subst, ◌∙◌, inl, inr, arith, true≢false}
-use Rattle.std.specs.Prelude.{◌⊎◌, ◌↔◌, ◌+◌, drop, Contains, IsTrue, nat_lt, nat_le, length}
+use Rattle.std.specs.Prelude.{◌⊎◌, ◌↔◌, ◌+◌, drop, Contains, IsTrue, nat_le, length}
 use Rattle.std.specs.Prelude.{slice_index_or}
 use Rattle.std.specs.List.{fold, list_all}
 use Rattle.std.specs.Ordering.{is_lt}
@@ -14,7 +14,8 @@ use Rattle.gf_ops.specs.declared.op.OpId.{OpId}
 use Rattle.gf_ops.specs.declared.change.Change.{Change}
 use Rattle.gf_ops.specs.declared.change.Change.TheVariants.{Create, Set}
 use Rattle.gf_ops.specs.Aims.{MayAimAt}
-use Rattle.gf_ops.specs.AimTests.{after_id, IsWithinAim, FitsAim, ConflictsAt, MemberConflicts, AimConflicts}
+use Rattle.gf_ops.specs.AimTests.{after_id, IsWithinAim, FitsAim, ConflictsAt, MemberConflicts}
+use Rattle.gf_ops.specs.AimTests.{AimConflicts}
 use Rattle.gf_ops.specs.Attribute.{change_aim, aim_of}
 use Rattle.gf_ops.specs.Limits.{is_id, is_clock, is_value, is_change, is_aim, IsInRange}
 use Rattle.gf_ops.specs.OperationOrder.{id_cmp, rises}

@@ -15,10 +15,11 @@ use Rattle.gf_ops.specs.declared.change.Start.{Start}
 use Rattle.gf_ops.specs.declared.change.Change.TheVariants.{Create, Set}
 use Rattle.gf_ops.specs.declared.change.Value.{Value}
 use Rattle.gf_ops.specs.AimTests.{ConflictsAt}
-use Rattle.gf_ops.specs.AimWalk.{place_of, Sets, IsOfSite, KnewAt, SetsAt, SetsSome, GivesAnother}
-use Rattle.gf_ops.specs.AimWalk.{NoneKnew, NoneAbove, IsLatest, TellsOne, IsAimTable, ConflictsWithLatest}
+use Rattle.gf_ops.specs.AimWalk.{index_of, Sets, IsOfSite, KnewAt, SetsAt, SetsSome, GivesAnother}
+use Rattle.gf_ops.specs.AimWalk.{NoneKnew, NoneAbove, IsLatest, TellsOne, IsAimTable}
+use Rattle.gf_ops.specs.AimWalk.{ConflictsWithLatest}
 use Rattle.gf_ops.specs.AimWalk.{ConflictsWithTable}
-use Rattle.gf_ops.specs.Attribute.{object_of}
+use Rattle.gf_ops.specs.Attribute.{attribute_of, object_of}
 use Rattle.gf_ops.specs.ConflictTests.{sets_another}
 use Rattle.gf_ops.specs.DirectConflict.{DirectConflict}
 use Rattle.gf_ops.specs.OperationOrder.{Precedes, entry}
@@ -26,7 +27,8 @@ use Rattle.gf_ops.specs.ValidHistory.{IsValid}
 use Rattle.gf_ops.proofs.DirectConflictLemmas.{apart_from, direct_told}
 use Rattle.gf_base.proofs.ListLemmas.{Contains-cons_head}
 use Rattle.gf_ops.proofs.ValidityLemmas.{same_op}
-use Rattle.gf_ops.proofs.SetterLemmas.{placed, value_cases, sets_one, other_told, other_from}
+use Rattle.gf_ops.proofs.AttributeLemmas.{attribute_index_below}
+use Rattle.gf_ops.proofs.SetterLemmas.{value_cases, sets_one, other_told, other_from}
 use Rattle.gf_ops.proofs.SetterLemmas.{sets_apart, SetBoth, both_set}
 
 module _ (h : List Op) (valid : IsValid h) where
@@ -62,11 +64,11 @@ module _ (h : List Op) (valid : IsValid h) where
         ∙ (ap (λ (z : Op). z.change) (found q) ∙ e) in absurd cc
 
     module _ (o : ObjectId) (v : Value) (aim : List OpId) (e : m.change ≡ Set o v aim) (k : ℕ)
-        (p : k ≡ place_of v) where
+        (p : k ≡ index_of v) where
       read : (q : ConflictsWithTable h table i) → slice_index_or table k None ≡ Some q.latest
       read q =
           let sets = subst (λ z. Sets z q.value) (found q) q.sets in
-          let same : place_of q.value ≡ k = ap place_of
+          let same : index_of q.value ≡ k = ap index_of
           (sets_one m q.value v sets (record { object = o; aim = aim; is = e })) ∙ sym p in
           ap (λ n. slice_index_or table n None) (sym same) ∙ q.at
 
@@ -89,7 +91,8 @@ module _ (h : List Op) (valid : IsValid h) where
         λ q.
             let f : Some q.latest ≡ Some l = sym (read q) ∙ at in
             let g : q.latest ≡ l = cc in
-            subst (ConflictsWithLatest h m) g (subst (λ z. ConflictsWithLatest h z q.latest) (found q) q.conflicts),
+            subst (ConflictsWithLatest h m) g
+            (subst (λ z. ConflictsWithLatest h z q.latest) (found q) q.conflicts),
       )
 
   of_site : (ids : List OpId) (t : ℕ) (i : OpId) (v : Value) (s : SetsAt h t i v) → Contains ids i
@@ -109,7 +112,7 @@ module _ (h : List Op) (valid : IsValid h) where
     -- with y
     behind_met : (y : Op) → IsOfSite h ids t y → DirectConflict x y
         → (v w : Value) (i : OpId) (z : SetsAt h t i w) → Contains ids i → y.id.seq ≤ i.seq
-        → Sets x v → place_of v ≡ place_of w → v ≢ w → ConflictsAt h x i
+        → Sets x v → index_of v ≡ index_of w → v ≢ w → ConflictsAt h x i
     behind_met y of d v w i z c l s e n =
         let at = of_site ids t i w z c in
         let seq : z.op.id.seq ≡ i.seq = ap (λ (j : OpId). j.seq) z.id in
@@ -126,23 +129,23 @@ module _ (h : List Op) (valid : IsValid h) where
         }
 
     entry_met : (y : Op) → IsOfSite h ids t y → DirectConflict x y
-        → (b : SetBoth x y) (o : Option Latest) → TellsOne h ids t (place_of b.first) o
+        → (b : SetBoth x y) (o : Option Latest) → TellsOne h ids t (index_of b.first) o
         → (l : Latest) × (o ≡ Some l) × ConflictsWithLatest h x l
-    entry_met y of d b None none = absurd (none y b.second of b.sets_second (sym b.place))
+    entry_met y of d b None none = absurd (none y b.second of b.sets_second (sym b.index))
     entry_met y of d b (Some l) k = elim (value_cases b.first k.value) [
       | inl e ↦
-          let far = k.beyond y b.second of b.sets_second (sym b.place) (λ g. b.differ (e ∙ sym g))
+          let far = k.beyond y b.second of b.sets_second (sym b.index) (λ g. b.differ (e ∙ sym g))
           in (
             l,
             refl,
             inr (behind_met y of d b.first k.other_value l.other k.other k.other_among far.1
-                b.sets_first (sym k.other_place) (λ g. far.0 (sym g ∙ e))),
+                b.sets_first (sym k.other_index) (λ g. far.0 (sym g ∙ e))),
           )
       | inr n ↦ (
         l,
         refl,
         inl (behind_met y of d b.first k.value l.nearest k.nearest k.nearest_among
-            (k.last y b.second of b.sets_second (sym b.place)) b.sets_first (sym k.place) n),
+            (k.last y b.second of b.sets_second (sym b.index)) b.sets_first (sym k.index) n),
       )
     ]
 
@@ -151,8 +154,8 @@ module _ (h : List Op) (valid : IsValid h) where
         → IsOfSite h ids t y → DirectConflict x y → ConflictsWithTable h table x.id
     table_met table tells y of d =
         let b = both_set h valid x y there of.contained x.change y.change refl refl d in
-        let met = entry_met y of d b (slice_index_or table (place_of b.first) None)
-        (tells.each (place_of b.first) (placed b.first).0) in
+        let met = entry_met y of d b (slice_index_or table (index_of b.first) None)
+        (tells.each (index_of b.first) (attribute_index_below (attribute_of b.first))) in
         record {
           op = x;
           contained = there;
@@ -169,8 +172,8 @@ module _ (h : List Op) (valid : IsValid h) where
       → IsAimTable h ids t table → (i : OpId) (m : ConflictsWithTable h table i)
       → (y : Op) × IsOfSite h ids t y × DirectConflict m.op y
   table_tells ids t table tells i m =
-      let k : IsLatest h ids t (place_of m.value) m.latest = subst
-      (TellsOne h ids t (place_of m.value)) m.at (tells.each (place_of m.value) (placed m.value).0)
+      let k : IsLatest h ids t (index_of m.value) m.latest = subst
+      (TellsOne h ids t (index_of m.value)) m.at (tells.each (index_of m.value) (attribute_index_below (attribute_of m.value)))
       in
       elim m.conflicts [
         | inl a ↦ (
@@ -205,8 +208,8 @@ module _ (h : List Op) (valid : IsValid h) where
     still : (j : OpId) → Contains ids j → Contains (ids ++ i ∷ []) j
     still j c = Contains-append_left ids (i ∷ []) j c
 
-    -- an entry stays where the operation under the id sets nothing at its place
-    entry_stays : (k : ℕ) (o : Option Latest) → ((v : Value) → SetsAt h t i v → place_of v ≢ k)
+    -- an entry stays where the operation under the id sets nothing of its attribute
+    entry_stays : (k : ℕ) (o : Option Latest) → ((v : Value) → SetsAt h t i v → index_of v ≢ k)
         → TellsOne h ids t k o → TellsOne h (ids ++ i ∷ []) t k o
     entry_stays k None off none = λ y v of s e. elim (more_cases y of) [
       | inl old ↦ none y v old s e
@@ -222,7 +225,7 @@ module _ (h : List Op) (valid : IsValid h) where
       value = r.value;
       nearest = r.nearest;
       nearest_among = still l.nearest r.nearest_among;
-      place = r.place;
+      index = r.index;
       last = λ y v of s e. elim (more_cases y of) [
         | inl old ↦ r.last y v old s e
         | inr same ↦ absurd (off v
@@ -237,7 +240,7 @@ module _ (h : List Op) (valid : IsValid h) where
       other_value = r.other_value;
       other = r.other;
       other_among = still l.other r.other_among;
-      other_place = r.other_place;
+      other_index = r.other_index;
       beyond = λ y v of s e n. elim (more_cases y of) [
         | inl old ↦ r.beyond y v old s e n
         | inr same ↦ absurd (off v
@@ -265,23 +268,23 @@ module _ (h : List Op) (valid : IsValid h) where
           (subst (λ z. Sets z v) (same_op h valid y at.op c at.contained (e ∙ sym at.id)) s) at.sets
 
       pub tells_more : (table : List (Option Latest)) (l : Latest) → IsAimTable h ids t table
-          → IsLatest h (ids ++ i ∷ []) t (place_of w) l
-          → IsAimTable h (ids ++ i ∷ []) t (set table (place_of w) (Some l))
+          → IsLatest h (ids ++ i ∷ []) t (index_of w) l
+          → IsAimTable h (ids ++ i ∷ []) t (set table (index_of w) (Some l))
       tells_more table l tells latest = record {
-        wide = length-set table (place_of w) (Some l) ∙ tells.wide;
-        each = λ k b. elim (cases_eq k (place_of w)) [
+        wide = length-set table (index_of w) (Some l) ∙ tells.wide;
+        each = λ k b. elim (cases_eq k (index_of w)) [
           | inl e ↦
               let wide = tells.wide in
-              let read = get_or-set_same table (place_of w) (Some l) None
+              let read = get_or-set_same table (index_of w) (Some l) None
               (omega (arith, b, e, wide)) in
               subst (λ n. TellsOne h (ids ++ i ∷ []) t n
-              (slice_index_or (set table (place_of w) (Some l)) n None)) (sym e)
-              (subst (TellsOne h (ids ++ i ∷ []) t (place_of w)) (sym read) latest)
+              (slice_index_or (set table (index_of w) (Some l)) n None)) (sym e)
+              (subst (TellsOne h (ids ++ i ∷ []) t (index_of w)) (sym read) latest)
           | inr n ↦
-              let read = get_or-set_other table (place_of w) k (Some l) None n in
+              let read = get_or-set_other table (index_of w) k (Some l) None n in
               let off : (v : Value) → SetsAt h t i v
-              → place_of v ≢ k = λ v s e.
-              n (sym e ∙ ap place_of (value_is s.op v s.contained s.id s.sets)) in
+              → index_of v ≢ k = λ v s e.
+              n (sym e ∙ ap index_of (value_is s.op v s.contained s.id s.sets)) in
               subst (TellsOne h (ids ++ i ∷ []) t k) (sym read)
               (entry_stays k (slice_index_or table k None) off (tells.each k b))
         ];
@@ -289,7 +292,7 @@ module _ (h : List Op) (valid : IsValid h) where
 
       module _ (above : NoneAbove h ids t i) where
         last_now : (y : Op) (v : Value) → IsOfSite h (ids ++ i ∷ []) t y → Sets y v
-            → place_of v ≡ place_of w → y.id.seq ≤ i.seq
+            → index_of v ≡ index_of w → y.id.seq ≤ i.seq
         last_now y v of s e = elim (more_cases y of) [
           | inl old ↦ above at.site y old
           | inr same ↦ let seq : y.id.seq ≡ i.seq = ap (λ (j : OpId). j.seq) same in
@@ -299,27 +302,27 @@ module _ (h : List Op) (valid : IsValid h) where
         among : Contains (ids ++ i ∷ []) i
         among = Contains-append_right ids (i ∷ []) i (Contains-cons_head i [])
 
-        pub latest_first : TellsOne h ids t (place_of w) None
-            → IsLatest h (ids ++ i ∷ []) t (place_of w) (record { nearest = i; other = i })
+        pub latest_first : TellsOne h ids t (index_of w) None
+            → IsLatest h (ids ++ i ∷ []) t (index_of w) (record { nearest = i; other = i })
         latest_first none = record {
           value = w;
           nearest = at;
           nearest_among = among;
-          place = refl;
+          index = refl;
           last = last_now;
           other_value = w;
           other = at;
           other_among = among;
-          other_place = refl;
+          other_index = refl;
           beyond = λ y v of s e n. elim (more_cases y of) [
             | inl old ↦ absurd (none y v old s e)
             | inr same ↦ absurd (n (value_is y v of.contained same s))
           ];
         }
 
-        module _ (l : Latest) (r : IsLatest h ids t (place_of w) l) where
+        module _ (l : Latest) (r : IsLatest h ids t (index_of w) l) where
           pub latest_turns : GivesAnother h l.nearest w
-              → IsLatest h (ids ++ i ∷ []) t (place_of w)
+              → IsLatest h (ids ++ i ∷ []) t (index_of w)
               (record { nearest = i; other = l.nearest })
           latest_turns g =
               let same = same_op h valid g.op r.nearest.op g.contained r.nearest.contained
@@ -330,12 +333,12 @@ module _ (h : List Op) (valid : IsValid h) where
                 value = w;
                 nearest = at;
                 nearest_among = among;
-                place = refl;
+                index = refl;
                 last = last_now;
                 other_value = r.value;
                 other = r.nearest;
                 other_among = still l.nearest r.nearest_among;
-                other_place = r.place;
+                other_index = r.index;
                 beyond = λ y v of s e n. elim (more_cases y of) [
                   | inl old ↦ (differ, r.last y v old s e)
                   | inr new ↦ absurd (n (value_is y v of.contained new s))
@@ -343,7 +346,7 @@ module _ (h : List Op) (valid : IsValid h) where
               }
 
           pub latest_keeps : ¬ (GivesAnother h l.nearest w)
-              → IsLatest h (ids ++ i ∷ []) t (place_of w) (record { nearest = i; other = l.other })
+              → IsLatest h (ids ++ i ∷ []) t (index_of w) (record { nearest = i; other = l.other })
           latest_keeps off =
               let same : r.value ≡ w = elim (value_cases r.value w) [
                 | inl e ↦ e
@@ -352,19 +355,19 @@ module _ (h : List Op) (valid : IsValid h) where
                       op = r.nearest.op;
                       contained = r.nearest.contained;
                       id = r.nearest.id;
-                      another = other_from r.nearest.op r.value w r.nearest.sets r.place n;
+                      another = other_from r.nearest.op r.value w r.nearest.sets r.index n;
                     }))
               ] in
               record {
                 value = w;
                 nearest = at;
                 nearest_among = among;
-                place = refl;
+                index = refl;
                 last = last_now;
                 other_value = r.other_value;
                 other = r.other;
                 other_among = still l.other r.other_among;
-                other_place = r.other_place;
+                other_index = r.other_index;
                 beyond = λ y v of s e n. elim (more_cases y of) [
                   | inl old ↦ let b = r.beyond y v old s e (λ g. n (g ∙ same)) in
                       (λ g. b.0 (g ∙ sym same), b.1)

@@ -1,6 +1,7 @@
 pub mod SameLemmas
 pub mod ValidityLemmas
 pub mod AimLemmas
+pub mod AttributeLemmas
 pub mod SetterLemmas
 pub mod AimWalkLemmas
 pub mod SiteWalkLemmas

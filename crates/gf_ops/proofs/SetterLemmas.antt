@@ -1,63 +1,27 @@
 -- What operations set: operations that conflict directly both set one attribute, and a creation
 -- conflicts directly with none.
-use Rattle.std.proofs.Common.{◌≡◌, ◌≢◌, ℕ, ◌<◌, zero, suc, true, List, Some, refl, sym, ap, subst}
-use Rattle.std.proofs.Common.{◌∙◌, inl, inr, arith}
+use Rattle.std.proofs.Common.{◌≡◌, ◌≢◌, true, List, Some, sym, ap, subst}
+use Rattle.std.proofs.Common.{◌∙◌, inl, inr}
 use Rattle.std.specs.Prelude.{◌⊎◌, Contains}
 use Rattle.std.proofs.lemmas.Bool.{cases_Bool}
 use Rattle.gf_ops.specs.declared.op.Op.{Op}
 use Rattle.gf_ops.specs.declared.op.ObjectId.{ObjectId}
-use Rattle.gf_ops.specs.declared.change.Attr.{Attr}
-use Rattle.gf_ops.specs.declared.change.Attr.TheVariants as attr
 use Rattle.gf_ops.specs.declared.change.Start.{Start}
 use Rattle.gf_ops.specs.declared.change.Change.{Change}
 use Rattle.gf_ops.specs.declared.change.Change.TheVariants.{Create, Set}
 use Rattle.gf_ops.specs.declared.change.Value.{Value}
-use Rattle.gf_ops.specs.declared.change.Value.TheVariants.{Place, Points, Size, Colour, Layer}
-use Rattle.gf_ops.specs.declared.change.Value.TheVariants.{Shown}
-use Rattle.gf_ops.specs.AimWalk.{place_of, Sets}
-use Rattle.gf_ops.specs.Attribute.{attribute_of, change_value, value_as, changed_object, object_of}
+use Rattle.gf_ops.specs.AimWalk.{index_of, Sets}
+use Rattle.gf_ops.specs.Attribute.{attribute_index, attribute_of, change_value, value_as, changed_object, object_of}
 use Rattle.gf_ops.specs.ConflictTests.{value_eq, sets_another}
 use Rattle.gf_ops.specs.DirectConflict.{SetApart, DirectConflict}
 use Rattle.gf_ops.specs.KnownObject.{IsSuited}
 use Rattle.gf_ops.specs.OperationOrder.{Precedes}
 use Rattle.gf_ops.specs.ValidHistory.{IsValid}
+use Rattle.gf_ops.proofs.AttributeLemmas.{one_attribute}
 use Rattle.gf_ops.proofs.DirectConflictLemmas.{value_as-given, value_as-own, another_told}
 use Rattle.gf_ops.proofs.DirectConflictLemmas.{another_from, direct-sym}
 use Rattle.gf_ops.proofs.SameLemmas.{value_eq-true, value_eq-same}
 use Rattle.gf_ops.proofs.ValidityLemmas.{same_op}
-
--- ---- places of attributes
-
-abbrev attribute_at : ℕ → Attr
-attribute_at zero = attr.Place
-attribute_at (suc zero) = attr.Points
-attribute_at (suc (suc zero)) = attr.Size
-attribute_at (suc (suc (suc zero))) = attr.Colour
-attribute_at (suc (suc (suc (suc zero)))) = attr.Layer
-attribute_at (suc (suc (suc (suc (suc k))))) = attr.Shown
-
-abbrev place : Attr → ℕ
-place attr.Place = 0
-place attr.Points = 1
-place attr.Size = 2
-place attr.Colour = 3
-place attr.Layer = 4
-place attr.Shown = 5
-
-pub placed : (v : Value) → (place_of v < 6) × (attribute_at (place_of v) ≡ attribute_of v)
-    × (place (attribute_of v) ≡ place_of v)
-placed (Place p) = (omega arith, refl, refl)
-placed (Points ps) = (omega arith, refl, refl)
-placed (Size m n) = (omega arith, refl, refl)
-placed (Colour c) = (omega arith, refl, refl)
-placed (Layer n) = (omega arith, refl, refl)
-placed (Shown b) = (omega arith, refl, refl)
-
-one_attribute : (v w : Value) → place_of v ≡ place_of w → attribute_of v ≡ attribute_of w
-one_attribute v w e = sym (placed v).1 ∙ (ap attribute_at e ∙ (placed w).1)
-
-one_place : (v w : Value) → attribute_of v ≡ attribute_of w → place_of v ≡ place_of w
-one_place v w e = sym (placed v).2 ∙ (ap place e ∙ (placed w).2)
 
 pub value_cases : (v w : Value) → (v ≡ w) ⊎ (v ≢ w)
 value_cases v w = elim (cases_Bool (value_eq v w)) [
@@ -71,14 +35,14 @@ value_cases v w = elim (cases_Bool (value_eq v w)) [
 pub sets_one : (x : Op) (v w : Value) → Sets x v → Sets x w → v ≡ w
 sets_one x v w s r = let e : Set s.object v s.aim ≡ Set r.object w r.aim = sym s.is ∙ r.is in cc
 
-pub sets_apart : (x y : Op) (v w : Value) → Sets x v → Sets y w → place_of v ≡ place_of w → v ≢ w
+pub sets_apart : (x y : Op) (v w : Value) → Sets x v → Sets y w → index_of v ≡ index_of w → v ≢ w
     → SetApart x.change y.change
 sets_apart x y v w s r e n = record {
   attribute = attribute_of w;
   first = v;
   second = w;
   first_given = ap (λ c. change_value c (attribute_of w)) s.is
-      ∙ (ap (value_as v) (sym (one_attribute v w e)) ∙ value_as-own v);
+      ∙ (ap (value_as v) (sym (one_attribute (attribute_of v) (attribute_of w) e)) ∙ value_as-own v);
   second_given = ap (λ c. change_value c (attribute_of w)) r.is ∙ value_as-own w;
   differ = n;
 }
@@ -92,10 +56,10 @@ other_told x v w s t e =
     let given = value_as-given v told.0 (attribute_of w) told.1 in
     told.2 (sym given.0 ∙ e)
 
-pub other_from : (x : Op) (v w : Value) → Sets x v → place_of v ≡ place_of w → v ≢ w
+pub other_from : (x : Op) (v w : Value) → Sets x v → index_of v ≡ index_of w → v ≢ w
     → sets_another x.change w ≡ true
 other_from x v w s e n =
-    let given : value_as v (attribute_of w) ≡ Some v = ap (value_as v) (sym (one_attribute v w e))
+    let given : value_as v (attribute_of w) ≡ Some v = ap (value_as v) (sym (one_attribute (attribute_of v) (attribute_of w) e))
     ∙ value_as-own v in
     subst (λ c. sets_another c w ≡ true) (sym s.is) (rw given (another_from v w n))
 
@@ -105,7 +69,7 @@ pub record SetBoth (x y : Op) : Type 0 where
   pub second : Value
   pub sets_first : Sets x first
   pub sets_second : Sets y second
-  pub place : place_of first ≡ place_of second
+  pub index : index_of first ≡ index_of second
   pub differ : first ≢ second
 
 module _ (h : List Op) (valid : IsValid h) where
@@ -142,6 +106,6 @@ module _ (h : List Op) (valid : IsValid h) where
         second = w;
         sets_first = record { object = o; aim = aim; is = e };
         sets_second = record { object = p; aim = others; is = f };
-        place = one_place v w (first.1 ∙ sym second.1);
+        index = ap attribute_index (first.1 ∙ sym second.1);
         differ = λ g. a.differ (sym first.0 ∙ (g ∙ second.0));
       }

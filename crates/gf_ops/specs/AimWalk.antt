@@ -5,25 +5,18 @@ use Rattle.std.specs.Prelude.{Option, Some, None, length, take, slice_index_or, 
 use Rattle.gf_ops.specs.declared.aim_walk.Latest.{Latest}
 use Rattle.gf_ops.specs.declared.change.Change.TheVariants.{Set}
 use Rattle.gf_ops.specs.declared.change.Value.{Value}
-use Rattle.gf_ops.specs.declared.change.Value.TheVariants.{Place, Points, Size, Colour, Layer}
-use Rattle.gf_ops.specs.declared.change.Value.TheVariants.{Shown}
 use Rattle.gf_ops.specs.declared.op.Op.{Op}
 use Rattle.gf_ops.specs.declared.op.OpId.{OpId}
 use Rattle.gf_ops.specs.declared.op.ObjectId.{ObjectId}
 use Rattle.gf_ops.specs.AimTests.{ConflictsAt}
-use Rattle.gf_ops.specs.Attribute.{object_of}
+use Rattle.gf_ops.specs.Attribute.{attribute_index, attribute_of, object_of}
 use Rattle.gf_ops.specs.ConflictTests.{sets_another}
 use Rattle.gf_ops.specs.DirectConflict.{DirectConflict}
 use Rattle.gf_ops.specs.OperationOrder.{entry}
 
--- the place in a table of the attribute that v is a value of
-abbrev pub place_of : Value → ℕ
-place_of (Place p) = 0
-place_of (Points ps) = 1
-place_of (Size width height) = 2
-place_of (Colour c) = 3
-place_of (Layer n) = 4
-place_of (Shown b) = 5
+-- the index of the attribute that v is a value of
+abbrev pub index_of : Value → ℕ
+index_of v = attribute_index (attribute_of v)
 
 -- the operation x sets an attribute to v
 pub record Sets (x : Op) (v : Value) : Type 0 where
@@ -84,29 +77,29 @@ pub record GivesAnother (h : List Op) (i : OpId) (w : Value) : Type 0 where
   pub id : op.id ≡ i
   pub another : sets_another op.change w ≡ true
 
--- of the operations of site t under the ids, l names the last setter at the place k. Its `other` is
+-- of the operations of site t under the ids, l names the last setter of the attribute with the index k. Its `other` is
 -- the last setter there of another value, or any one where all give one value
 pub record IsLatest (h : List Op) (ids : List OpId) (t k : ℕ) (l : Latest) : Type 0 where
   pub value : Value
   pub nearest : SetsAt h t l.nearest value
   pub nearest_among : Contains ids l.nearest
-  pub place : place_of value ≡ k
-  pub last : (y : Op) (w : Value) → IsOfSite h ids t y → Sets y w → place_of w ≡ k
+  pub index : index_of value ≡ k
+  pub last : (y : Op) (w : Value) → IsOfSite h ids t y → Sets y w → index_of w ≡ k
       → y.id.seq ≤ l.nearest.seq
   pub other_value : Value
   pub other : SetsAt h t l.other other_value
   pub other_among : Contains ids l.other
-  pub other_place : place_of other_value ≡ k
-  pub beyond : (y : Op) (w : Value) → IsOfSite h ids t y → Sets y w → place_of w ≡ k
+  pub other_index : index_of other_value ≡ k
+  pub beyond : (y : Op) (w : Value) → IsOfSite h ids t y → Sets y w → index_of w ≡ k
       → w ≢ value → (other_value ≢ value) × (y.id.seq ≤ l.other.seq)
 
--- what the entry has of the place k: no setter, or the latest ones
+-- what the entry has under the index k: no setter, or the latest ones
 abbrev pub TellsOne : List Op → List OpId → ℕ → ℕ → Option Latest → Type 0
 TellsOne h ids t k None = (y : Op) (w : Value) → IsOfSite h ids t y → Sets y w
-    → ¬ (place_of w ≡ k)
+    → ¬ (index_of w ≡ k)
 TellsOne h ids t k (Some l) = IsLatest h ids t k l
 
--- the table has the entry of each place
+-- the table has the entry of each attribute
 pub record IsAimTable (h : List Op) (ids : List OpId) (t : ℕ)
     (table : List (Option Latest)) : Type 0 where
   pub wide : length table ≡ 6
@@ -129,7 +122,7 @@ pub record ConflictsWithTable (h : List Op) (table : List (Option Latest)) (i : 
   pub value : Value
   pub sets : Sets op value
   pub latest : Latest
-  pub at : slice_index_or table (place_of value) None ≡ Some latest
+  pub at : slice_index_or table (index_of value) None ≡ Some latest
   pub conflicts : ConflictsWithLatest h op latest
 
 -- the table has the setters of the first n ids; no operation of the site t under these knew i

@@ -1,5 +1,5 @@
 -- The attributes of objects, and the value that an operation gives to each (this project's choice).
-use Rattle.std.specs.Prelude.{Bool, true, false, ◌==◌, List, [], Option, Some, None}
+use Rattle.std.specs.Prelude.{ℕ, Bool, true, false, ◌==◌, List, [], Option, Some, None}
 use Rattle.std.specs.Prelude.{if◌then◌else◌}
 use Rattle.gf_ops.specs.declared.op.Op.{Op}
 use Rattle.gf_ops.specs.declared.op.OpId.{OpId}
@@ -57,6 +57,15 @@ attribute_of (value.Size width height) = Size
 attribute_of (value.Colour c) = Colour
 attribute_of (value.Layer n) = Layer
 attribute_of (value.Shown b) = Shown
+
+-- the index of an attribute
+abbrev pub attribute_index : Attr → ℕ
+attribute_index Place = 0
+attribute_index Points = 1
+attribute_index Size = 2
+attribute_index Colour = 3
+attribute_index Layer = 4
+attribute_index Shown = 5
 
 -- the value that the form f gives to its attribute
 abbrev pub form_value : Form → Value

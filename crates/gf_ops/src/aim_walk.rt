@@ -5,9 +5,10 @@ ghost use Rattle.std.specs.Prelude.{slice_index_or, IsTrue, IfSome, IfNone};
 ghost use Rattle.gf_ops.specs.declared.op.OpId.{OpId};
 ghost use Rattle.gf_ops.specs.declared.change.Value.{Value};
 ghost use Rattle.gf_ops.specs.AimTests.{AreDirectlyCompatible};
-ghost use Rattle.gf_ops.specs.AimWalk.{place_of, AreOnOne, AreParted, ArePartedBelow, KnewAt};
+ghost use Rattle.gf_ops.specs.AimWalk.{index_of, AreOnOne, AreParted, ArePartedBelow, KnewAt};
 ghost use Rattle.gf_ops.specs.AimWalk.{SetsAt, SetsSome, GivesAnother, IsLatest};
-ghost use Rattle.gf_ops.specs.AimWalk.{TellsOne, IsAimTable, NoneAbove, ConflictsWithTable, IsNoted};
+ghost use Rattle.gf_ops.specs.AimWalk.{TellsOne, IsAimTable, NoneAbove, ConflictsWithTable};
+ghost use Rattle.gf_ops.specs.AimWalk.{IsNoted};
 ghost use Rattle.gf_ops.specs.Limits.{IsInRange};
 ghost use Rattle.gf_ops.specs.OperationOrder.{IsSite, id_cmp, rises};
 
@@ -22,19 +23,12 @@ struct Latest {
     other: OpId,
 }
 
-/// The place of the value's attribute in a table.
-fn place_of(value: &Value) -> usize
-    ensures place { result ≡ place_of value.now }
+/// The index of the attribute of the value.
+fn index_of(value: &Value) -> usize
+    ensures value { result ≡ index_of value.now }
     ensures below { result < 6 }
 {
-    match value {
-        Value::Place(_) => 0,
-        Value::Points(_) => 1,
-        Value::Size(_, _) => 2,
-        Value::Colour(_) => 3,
-        Value::Layer(_) => 4,
-        Value::Shown(_) => 5,
-    }
+    value.attribute().index()
 }
 
 impl History {
@@ -145,9 +139,9 @@ impl History {
         // The clause of `ops` says that the history is valid.
         let _ = self.ops();
         if let Some(value) = self.setting(id, site) {
-            let place = place_of(value);
-            let latest = table[place];
-            table[place] = Some(self.next_latest(latest, id, value));
+            let index = index_of(value);
+            let latest = table[index];
+            table[index] = Some(self.next_latest(latest, id, value));
         }
     }
 
@@ -170,9 +164,9 @@ impl History {
     /// The latest setters of an attribute, of which this setter is the last one.
     fn next_latest(&self, latest: Option<Latest>, id: OpId, value: &Value) -> Latest
         ensures { (ids : List OpId) (site : ℕ) → NoneAbove self.now.ops ids site id
-            → TellsOne self.now.ops ids site (place_of value.now) latest
+            → TellsOne self.now.ops ids site (index_of value.now) latest
             → SetsAt self.now.ops site id value.now
-            → IsLatest self.now.ops (ids ++ id ∷ []) site (place_of value.now) result }
+            → IsLatest self.now.ops (ids ++ id ∷ []) site (index_of value.now) result }
     {
         // The clause of `ops` says that the history is valid.
         let _ = self.ops();
@@ -214,9 +208,10 @@ impl History {
         let Change::Set { value, .. } = &op.change else {
             return false;
         };
-        match table[place_of(value)] {
+        match table[index_of(value)] {
             Some(latest) => {
-                self.conflicts_with_one(op, latest.nearest) || self.conflicts_with_one(op, latest.other)
+                self.conflicts_with_one(op, latest.nearest)
+                    || self.conflicts_with_one(op, latest.other)
             }
             None => false,
         }

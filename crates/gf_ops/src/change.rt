@@ -1,7 +1,7 @@
 //! What an operation changes.
 
-ghost use Rattle.std.specs.Prelude.{◌≡◌};
-ghost use Rattle.gf_ops.specs.Attribute.{attribute_of};
+ghost use Rattle.std.specs.Prelude.{◌≡◌, ◌<◌};
+ghost use Rattle.gf_ops.specs.Attribute.{attribute_index, attribute_of};
 
 use crate::{Ids, ObjectId, Points};
 use gf_shape::{Point, Rgb};
@@ -15,6 +15,23 @@ pub enum Attr {
     Colour,
     Layer,
     Shown,
+}
+
+impl Attr {
+    /// The index of the attribute, 0 to 5.
+    pub fn index(self) -> usize
+        ensures value { result ≡ attribute_index self }
+        ensures bound { result < 6 }
+    {
+        match self {
+            Attr::Place => 0,
+            Attr::Points => 1,
+            Attr::Size => 2,
+            Attr::Colour => 3,
+            Attr::Layer => 4,
+            Attr::Shown => 5,
+        }
+    }
 }
 
 /// A value of an attribute.

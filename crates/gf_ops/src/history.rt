@@ -89,7 +89,7 @@ impl History {
         ensures none { IfNone result ((op : Op) → Contains self.now.ops op → op.id ≢ id) }
     {
         match self.position(id) {
-            Some(place) => self.ops.get(place),
+            Some(position) => self.ops.get(position),
             None => None,
         }
     }

@@ -38,7 +38,7 @@ use Rattle.gf_replicas.proofs.SitesLemmas.{length-new_sites, new_at}
 use Rattle.gf_replicas.proofs.GrowingLemmas.{fresh_id, course_valid}
 use Rattle.gf_replicas.proofs.CutLemmas.{Comes, course_cut, Split, split_at}
 
--- the site at the place k, with these operations
+-- the site with the index k, with these operations
 abbrev resting : ℕ → List Op → SiteState
 resting k ops = record { number = suc k; ops = ops; held = [] }
 
@@ -153,7 +153,7 @@ take_all n messages k all c (a ∷ rest) h more e among sites at w =
 
 -- ---- worlds on the way to the lists
 
--- the site at the place k has a beginning of its course h, of messages, and holds nothing
+-- the site with the index k has a beginning of its course h, of messages, and holds nothing
 record IsAt (messages : List Op) (k : ℕ) (h : List Op) (x : SiteState) : Type 0 where
   ops : List Op
   rest : List Op

@@ -31,7 +31,7 @@ use Rattle.gf_replicas.specs.World.{WorldState, site_at, with_site, Receives, al
 use Rattle.gf_replicas.specs.World.{Happens, authors, refuses, receives, applies, idle}
 use Rattle.gf_replicas.specs.Sound.{IsSiteOf, IsSound}
 
--- the site at a place
+-- the site with an index
 pub stands_at : (sites seen : List SiteState) (k : ℕ) (x : SiteState) → seen ≡ sites
     → k < length seen → x ≡ get_or sites k x → slice_get sites k ≡ Some x
 stands_at sites seen k x e l v = slice_get_read sites (length seen) k x (ap length e) l v

@@ -69,10 +69,10 @@ fn author(world: &mut World, number: u8, change: Change) -> Result<(), OutOfMemo
     ensures { OnOk result (Happens (state_of world.old) (Event.Author number change)
         (state_of world.new)) }
 {
-    let Some(place) = place_of(&world.sites, number) else {
+    let Some(index) = index_of(&world.sites, number) else {
         return Ok(());
     };
-    match world.sites[place].author(change) {
+    match world.sites[index].author(change) {
         Ok(op) => Ok(world.messages.push(op)?),
         Err(fault) => unless_memory(fault),
     }
@@ -84,14 +84,14 @@ fn offer(alloc: Global, world: &mut World, number: u8, message: usize) -> Result
     ensures { OnOk result (Happens (state_of world.old) (Event.Offer number message)
         (state_of world.new)) }
 {
-    let Some(place) = place_of(&world.sites, number) else {
+    let Some(index) = index_of(&world.sites, number) else {
         return Ok(());
     };
     let Some(op) = message_at(&world.messages, message) else {
         return Ok(());
     };
     let copy = op.copy(alloc)?;
-    unless_full(world.sites[place].receive(copy))
+    unless_full(world.sites[index].receive(copy))
 }
 
 /// Lets the site of this number step.
@@ -99,15 +99,15 @@ fn step(world: &mut World, number: u8) -> Result<(), OutOfMemory>
     requires { IsSound (state_of world.old) }
     ensures { OnOk result (Happens (state_of world.old) (Event.Step number) (state_of world.new)) }
 {
-    if let Some(place) = place_of(&world.sites, number) {
-        world.sites[place].step()?;
+    if let Some(index) = index_of(&world.sites, number) {
+        world.sites[index].step()?;
     }
     Ok(())
 }
 
 /// Where the site of this number stands.
-fn place_of(sites: &[Site], number: u8) -> Option<usize>
-    ensures found { IfSome result (λ place. (number ≡ place + 1) × (place < length sites.now)) }
+fn index_of(sites: &[Site], number: u8) -> Option<usize>
+    ensures found { IfSome result (λ index. (number ≡ index + 1) × (index < length sites.now)) }
     ensures none { IfNone result (site_at sites.now number ≡ None) }
 {
     if 1 <= number && usize::from(number) <= sites.len() {

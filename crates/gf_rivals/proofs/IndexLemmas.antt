@@ -22,7 +22,8 @@ use Rattle.gf_rivals.specs.Indexing.{PutsGiven, IsListed, Lists, IsListedBelow, 
 use Rattle.gf_rivals.proofs.FingerprintLemmas.{at_itself, at_same}
 use Rattle.gf_rivals.proofs.SetterIndexLemmas.{log_number}
 use Rattle.gf_rivals.proofs.SetterLemmas.{at_index}
-use Rattle.gf_rivals.proofs.NumberLemmas.{some_one, got_at, attribute_index_below, number_in}
+use Rattle.gf_rivals.proofs.NumberLemmas.{some_one, got_at, number_in}
+use Rattle.gf_ops.proofs.AttributeLemmas.{attribute_index_below}
 
 -- ---- one more number
 

@@ -19,7 +19,9 @@ use Rattle.gf_ops.specs.ValidHistory.{IsValid}
 use Rattle.gf_ops.proofs.HistoryLemmas.{site_in_range, seq_in_range}
 use Rattle.gf_rivals.specs.declared.log.Setter.{Setter}
 use Rattle.gf_rivals.specs.Setters.{AreSetters}
-use Rattle.gf_rivals.specs.Logs.{attribute_index, log_of, setters, no_logs, with_log}
+use Rattle.gf_ops.specs.Attribute.{attribute_index}
+use Rattle.gf_ops.proofs.AttributeLemmas.{attribute_index_below, one_attribute}
+use Rattle.gf_rivals.specs.Logs.{log_of, setters, no_logs, with_log}
 use Rattle.gf_rivals.specs.Logs.{with_setter}
 use Rattle.gf_rivals.specs.Rivals.{IsSetter, IsNumber, AreLogsOf}
 use Rattle.gf_rivals.specs.declared.fingerprint.Fingerprint.{Fingerprint}
@@ -30,7 +32,7 @@ use Rattle.gf_rivals.proofs.IndexLemmas.{Contains-numbers_at}
 use Rattle.gf_rivals.proofs.LongerLemmas.{get_front, get_within, get_last, get_cases, set_here}
 use Rattle.gf_rivals.proofs.LongerLemmas.{set_else, set_back}
 use Rattle.gf_rivals.proofs.NextLemmas.{earlier}
-use Rattle.gf_rivals.proofs.NumberLemmas.{some_one, one_attribute, attribute_index_below}
+use Rattle.gf_rivals.proofs.NumberLemmas.{some_one}
 use Rattle.gf_rivals.proofs.NumberLemmas.{contained_at}
 use Rattle.gf_rivals.proofs.NumberLemmas.{number_within}
 use Rattle.gf_rivals.proofs.SetterIndexLemmas.{log_number}

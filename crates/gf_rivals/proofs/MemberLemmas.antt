@@ -46,7 +46,7 @@ use Rattle.gf_rivals.specs.declared.setter_index.SetterIndex.{SetterIndex}
 use Rattle.gf_rivals.specs.Setters.{IsCountUpTo}
 use Rattle.gf_rivals.proofs.AimRivalLemmas.{conflict_numbers}
 use Rattle.gf_rivals.proofs.NumberLemmas.{some_one, contained_at, got_at, index_short, position_is}
-use Rattle.gf_rivals.proofs.NumberLemmas.{one_attribute}
+use Rattle.gf_ops.proofs.AttributeLemmas.{one_attribute}
 use Rattle.gf_rivals.proofs.RivalLemmas.{given_is, own_value}
 use Rattle.gf_rivals.proofs.SetterIndexLemmas.{log_number, setter_of-log_number}
 

@@ -15,7 +15,10 @@ use Rattle.gf_ops.specs.Attribute.{attribute_of}
 use Rattle.gf_rivals.specs.declared.log.Setter.{Setter}
 use Rattle.gf_rivals.specs.declared.setter_index.TheConstants.{FIRST_ABOVE}
 use Rattle.gf_rivals.specs.SetterIndexes.{setter_of}
-use Rattle.gf_rivals.specs.Logs.{attribute_index, log_of, setters, position_of}
+use Rattle.gf_ops.specs.Attribute.{attribute_index}
+use Rattle.gf_ops.proofs.AttributeLemmas.{attribute_at, attribute_index_at, attribute_index_below}
+use Rattle.gf_ops.proofs.AttributeLemmas.{one_attribute}
+use Rattle.gf_rivals.specs.Logs.{log_of, setters, position_of}
 use Rattle.gf_rivals.specs.Rivals.{IsNumber, AreLogsOf}
 use Rattle.gf_rivals.proofs.SetterIndexLemmas.{log_number, number_of-setter_of, one_log_number}
 use Rattle.gf_rivals.proofs.SetterIndexLemmas.{setter_of-log_number}
@@ -34,46 +37,6 @@ got_at (y ∷ xs) (suc i) x e = let w = got_at xs i x e in (let l = w.0 in omega
 pub contained_at : {X : Type 0} (xs : List X) (i : ℕ) (x : X) → slice_get xs i ≡ Some x
     → Contains xs x
 contained_at xs i x e = let w = got_at xs i x e in (i, w.0, w.1)
-
--- ---- attributes by their indices
-
-pub attribute_index_below : (t : Attr) → attribute_index t < 6
-attribute_index_below Place = omega arith
-attribute_index_below Points = omega arith
-attribute_index_below Size = omega arith
-attribute_index_below Colour = omega arith
-attribute_index_below Layer = omega arith
-attribute_index_below Shown = omega arith
-
-attribute_at : ℕ → Attr
-attribute_at zero = Place
-attribute_at (suc zero) = Points
-attribute_at (suc (suc zero)) = Size
-attribute_at (suc (suc (suc zero))) = Colour
-attribute_at (suc (suc (suc (suc zero)))) = Layer
-attribute_at (suc (suc (suc (suc (suc k))))) = Shown
-
-attribute_at_index : (t : Attr) → attribute_at (attribute_index t) ≡ t
-unfolding attribute_at
-attribute_at_index Place = refl
-attribute_at_index Points = refl
-attribute_at_index Size = refl
-attribute_at_index Colour = refl
-attribute_at_index Layer = refl
-attribute_at_index Shown = refl
-
-pub one_attribute : (t u : Attr) → attribute_index t ≡ attribute_index u → t ≡ u
-one_attribute t u e = sym (attribute_at_index t) ∙ (ap attribute_at e ∙ attribute_at_index u)
-
-attribute_index_at : (r : ℕ) → r < 6 → attribute_index (attribute_at r) ≡ r
-unfolding attribute_at
-attribute_index_at zero l = refl
-attribute_index_at (suc zero) l = refl
-attribute_index_at (suc (suc zero)) l = refl
-attribute_index_at (suc (suc (suc zero))) l = refl
-attribute_index_at (suc (suc (suc (suc zero)))) l = refl
-attribute_index_at (suc (suc (suc (suc (suc zero))))) l = refl
-attribute_index_at (suc (suc (suc (suc (suc (suc k)))))) l = absurd (omega arith)
 
 -- the attribute that a setter sets
 abbrev attribute_set : Change → Attr

@@ -16,7 +16,8 @@ use Rattle.gf_maximal.proofs.UnitedLemmas.{Contains-united}
 use Rattle.gf_maximal.specs.Growing.{united}
 use Rattle.gf_rivals.specs.declared.log.Setter.{Setter}
 use Rattle.gf_rivals.specs.Setters.{AreSetters, IsCountUpTo, IsNumberAbove}
-use Rattle.gf_rivals.specs.Logs.{attribute_index, log_of, setters, IsUnknown}
+use Rattle.gf_ops.specs.Attribute.{attribute_index}
+use Rattle.gf_rivals.specs.Logs.{log_of, setters, IsUnknown}
 use Rattle.gf_rivals.proofs.SetterIndexLemmas.{log_number}
 
 seq_up_to : (m n : ℕ) → nat_le m n ≡ true → m ≤ n

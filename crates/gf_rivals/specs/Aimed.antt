@@ -82,10 +82,11 @@ pub record ConflictsWithOne (h : List Op) (ls : List (List Setter)) (us : List �
   pub conflict : ConflictDirectly h ls one n
 
 -- n is the number of a setter with which a, or one that a aims at, conflicts directly
-pub record IsRivalOfBrought (h : List Op) (ls : List (List Setter)) (a : Op) (n : ℕ) : Type 0 where
-  pub first : Op
-  pub brings : Brings h a first
-  pub direct : IsDirect h ls first n
+pub record IsRivalOfBrought (h : List Op) (ls : List (List Setter)) (a : Op) (n : ℕ) : Type 0
+  where
+    pub first : Op
+    pub brings : Brings h a first
+    pub direct : IsDirect h ls first n
 
 -- n is the number of an operation of h that conflicts with a
 pub record IsConflict (h : List Op) (ls : List (List Setter)) (a : Op) (n : ℕ) : Type 0 where

@@ -3,22 +3,13 @@ use Rattle.std.specs.Prelude.{ℕ, ◌+◌, ◌*◌, ◌<◌, List, [], ◌∷�
 use Rattle.std.specs.Prelude.{◌++◌, slice_index_or, slice_get, slice_set, Option, option_map}
 use Rattle.std.specs.List.{repeat}
 use Rattle.gf_ops.specs.declared.change.Attr.{Attr}
-use Rattle.gf_ops.specs.declared.change.Attr.TheVariants.{Place, Points, Size, Colour, Layer, Shown}
+use Rattle.gf_ops.specs.Attribute.{attribute_index}
 use Rattle.gf_ops.specs.declared.op.Clock.{Clock}
 use Rattle.gf_ops.specs.OperationOrder.{entry}
 use Rattle.gf_rivals.specs.declared.log.Setter.{Setter}
 use Rattle.gf_rivals.specs.SetterIndexes.{setter_of}
 use Rattle.gf_rivals.specs.Setters.{IsNumberAbove}
 use Rattle.gf_rivals.specs.declared.logs.TheConstants.{LOGS}
-
--- the index of the attribute
-abbrev pub attribute_index : Attr → ℕ
-attribute_index Place = 0
-attribute_index Points = 1
-attribute_index Size = 2
-attribute_index Colour = 3
-attribute_index Layer = 4
-attribute_index Shown = 5
 
 -- the index of the log of the attribute t and the site s + 1
 abbrev pub log_of : Attr → ℕ → ℕ

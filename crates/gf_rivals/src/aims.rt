@@ -54,7 +54,8 @@ impl Aimed {
     /// Adds the number of the operation, if it aims at one of the others.
     fn join_to(&self, others: &Numbers, found: &mut Numbers) -> Result<(), OutOfMemory>
         ensures { OnOk result
-            (AddsIf (intersects self.now.aim others.now ≡ true) self.now.number found.old found.new) }
+            (AddsIf (intersects self.now.aim others.now ≡ true) self.now.number
+            found.old found.new) }
     {
         if self.aim.intersects(others) {
             found.join(self.number)

@@ -7,10 +7,10 @@ ghost use Rattle.gf_rivals.specs.Comparing.{number_gives, AddsIf};
 ghost use Rattle.gf_rivals.specs.Indexes.{IsIndex};
 ghost use Rattle.gf_rivals.specs.Rivals.{AreLogsOf, AreRivals};
 
-use crate::logs::Logs;
 use crate::fingerprint::{fingerprint_of, has_own_fingerprint};
 use crate::giving::number_gives;
 use crate::index::Index;
+use crate::logs::Logs;
 use gf_maximal::Numbers;
 use gf_ops::{History, Op, Value};
 use gf_shape::OutOfMemory;

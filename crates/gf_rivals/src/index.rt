@@ -10,10 +10,10 @@ ghost use Rattle.gf_rivals.specs.Indexes.{IsIndex, PutsNumber, PutsNumbers};
 ghost use Rattle.gf_rivals.specs.Indexing.{PutsGiven, Lists, ListsLog};
 ghost use Rattle.gf_rivals.specs.declared.logs.TheConstants.{LOGS};
 
-use crate::log::Setter;
-use crate::logs::{LOGS, Logs};
 use crate::fingerprint::{Fingerprint, fingerprint_of};
 use crate::giving::op_value;
+use crate::log::Setter;
+use crate::logs::{LOGS, Logs};
 use crate::setter_index::SetterIndex;
 use gf_maximal::Numbers;
 use gf_ops::{History, Op, Value};

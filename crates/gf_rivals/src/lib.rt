@@ -11,19 +11,19 @@
 #![tactic(auto)]
 
 mod aims;
-mod log;
-mod logs;
 mod conflicting;
 mod fingerprint;
 mod giving;
 mod index;
 mod kept;
+mod log;
+mod logs;
 mod members;
 mod setter_index;
 
 pub use aims::{Aimed, numbers_of, with_aimed};
-pub use logs::Logs;
 pub use conflicting::rivals;
 pub use index::Index;
+pub use logs::Logs;
 pub use members::conflicting_with;
 pub use setter_index::FIRST_ABOVE;

@@ -99,10 +99,7 @@ impl Log {
     {
         let len = self.len();
         let known = self.count_up_to(count);
-        let first = SetterIndex {
-            log,
-            index: known,
-        };
+        let first = SetterIndex { log, index: known };
         let end = SetterIndex { log, index: len };
         Numbers::between(alloc, first.number(), end.number())
     }

@@ -10,14 +10,14 @@ ghost use Rattle.gf_ops.specs.OperationOrder.{IsSite, entry};
 ghost use Rattle.gf_ops.specs.ValidHistory.{IsWithin};
 ghost use Rattle.gf_rivals.specs.SetterIndexes.{HasNumber, number_of};
 ghost use Rattle.gf_rivals.specs.Setters.{IsNumberAbove};
-ghost use Rattle.gf_rivals.specs.Logs.{attribute_index, log_of, setters, no_logs};
+ghost use Rattle.gf_rivals.specs.Logs.{log_of, setters, no_logs};
 ghost use Rattle.gf_rivals.specs.Logs.{position_of};
 ghost use Rattle.gf_rivals.specs.Logs.{with_setter, with_log, IsUnknown};
 ghost use Rattle.gf_rivals.specs.declared.logs.TheConstants.{LOGS};
 ghost use Rattle.gf_rivals.specs.declared.setter_index.TheConstants.{FIRST_ABOVE};
 
-use crate::log::Log;
 use crate::kept::{KeptLogs, copied, pop_from, push_to};
+use crate::log::Log;
 use crate::setter_index::SetterIndex;
 use gf_maximal::Numbers;
 use gf_ops::{Attr, Clock, OpId};
@@ -52,28 +52,13 @@ impl Model for Logs {
         × AreCounted c.latest (all_logs c.logs.entries) };
 }
 
-/// The index of an attribute.
-fn attribute_index(attribute: Attr) -> usize
-    ensures value { result ≡ attribute_index attribute }
-    ensures bound { result < 6 }
-{
-    match attribute {
-        Attr::Place => 0,
-        Attr::Points => 1,
-        Attr::Size => 2,
-        Attr::Colour => 3,
-        Attr::Layer => 4,
-        Attr::Shown => 5,
-    }
-}
-
 /// The index of the log of an attribute and a site.
 fn log_of(attribute: Attr, site: u8) -> usize
     requires { IsSite site }
     ensures value { result ≡ log_of attribute (site - 1) }
     ensures bound { result < LOGS }
 {
-    attribute_index(attribute) * 8 + (usize::from(site) - 1)
+    attribute.index() * 8 + (usize::from(site) - 1)
 }
 
 /// The clock, which counts the operation under this id too.
@@ -156,7 +141,7 @@ impl Logs {
         if self.latest.is_within(past) {
             return Ok(Numbers::new(alloc));
         }
-        let first = attribute_index(attribute) * 8;
+        let first = attribute.index() * 8;
         let mut found = Numbers::new(alloc);
         for site in 0..8 {
             found = self.with_unknown(alloc, found, first + site, past.0[site])?;
@@ -171,7 +156,7 @@ impl Logs {
         ensures first { IsFirstUnknown self.now attribute site past.now result }
         ensures number { HasNumber result }
     {
-        let log = attribute_index(attribute) * 8 + site;
+        let log = attribute.index() * 8 + site;
         match self.log(log) {
             Some(setters) => {
                 let index = setters.count_up_to(past.0[site]);

@@ -12,8 +12,8 @@ ghost use Rattle.gf_rivals.specs.Rivals.{AreLogsOf};
 ghost use Rattle.gf_rivals.specs.SetterIndexes.{HasNumber};
 ghost use Rattle.gf_rivals.specs.declared.setter_index.TheConstants.{FIRST_ABOVE};
 
-use crate::logs::Logs;
 use crate::giving::{number_gives, op_value};
+use crate::logs::Logs;
 use crate::setter_index::SetterIndex;
 use gf_maximal::Numbers;
 use gf_ops::{History, Op, Value, direct_conflict};
@@ -42,10 +42,7 @@ fn conflict(history: &History, logs: &Logs, number: usize, other: usize) -> bool
     ensures value { IsTrue result ↔ ConflictDirectly history.now.ops logs.now number other }
     ensures bound { IsTrue result → other < FIRST_ABOVE }
 {
-    match (
-        op_of(history, logs, number),
-        op_of(history, logs, other),
-    ) {
+    match (op_of(history, logs, number), op_of(history, logs, other)) {
         (Some(op), Some(other)) => direct_conflict(op, other),
         _ => false,
     }
@@ -71,12 +68,7 @@ fn give_others(history: &History, logs: &Logs, number: usize, other: usize) -> b
 
 /// The next setter of the log of the number that gives another value, where `next` is the next
 /// member.
-fn other_of(
-    history: &History,
-    logs: &Logs,
-    number: usize,
-    next: Option<&Member>,
-) -> Option<usize>
+fn other_of(history: &History, logs: &Logs, number: usize, next: Option<&Member>) -> Option<usize>
     ensures { IsOther history.now.ops logs.now number (option_copied next.entry) result }
 {
     let next = next?;

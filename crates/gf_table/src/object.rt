@@ -24,7 +24,7 @@ use gf_components::{Component, Components};
 use gf_maximal::Numbers;
 use gf_ops::{Attr, Clock, History, Op, OpId, Value};
 use gf_rivals::{
-    Aimed, Logs, FIRST_ABOVE, Index, conflicting_with, numbers_of, rivals, with_aimed,
+    Aimed, FIRST_ABOVE, Index, Logs, conflicting_with, numbers_of, rivals, with_aimed,
 };
 use std::alloc::Global;
 use std::marker::Model;

@@ -12,7 +12,8 @@ use Rattle.gf_base.proofs.ListLemmas.{Contains-cons_cases, Contains-cons_head, C
 use Rattle.gf_base.proofs.ListLemmas.{not_Contains-nil}
 use Rattle.gf_maximal.specs.Growing.{intersects, without}
 use Rattle.gf_base.proofs.FilterLemmas.{list_all_true, list_all_from}
-use Rattle.gf_maximal.proofs.MaximalLemmas.{Within, intersects_one, intersects_from, Contains-without}
+use Rattle.gf_maximal.proofs.MaximalLemmas.{Within, intersects_one, intersects_from}
+use Rattle.gf_maximal.proofs.MaximalLemmas.{Contains-without}
 use Rattle.gf_visible.specs.Choices.{StepState, holds, all_hold, choices, answers, first, second}
 use Rattle.gf_visible.specs.PendingChoices.{ChoiceState, all_answers, weight_of}
 use Rattle.gf_visible.proofs.PassingLemmas.{drop_next}
@@ -39,13 +40,16 @@ holds_more g p s w t = elim (or_cases (intersects s.own g && (not s.hides || int
           let covered : (not s.hides || intersects s.covers p) ≡ true = elim (or_cases (not s.hides)
           (intersects s.covers g) parts.1) [
             | inl n ↦ or_first (not s.hides) (intersects s.covers p) n
-            | inr m ↦ or_second (not s.hides) (intersects s.covers p) (intersects_more s.covers g p w m)
+            | inr m ↦ or_second (not s.hides) (intersects s.covers p)
+                (intersects_more s.covers g p w m)
           ] in
-          or_first (intersects s.own p && (not s.hides || intersects s.covers p)) (intersects s.rivals p)
+          or_first (intersects s.own p && (not s.hides || intersects s.covers p))
+          (intersects s.rivals p)
           (and_from (intersects s.own p) (not s.hides || intersects s.covers p)
           (intersects_more s.own g p w parts.0)
           covered)
-      | inr m ↦ or_second (intersects s.own p && (not s.hides || intersects s.covers p)) (intersects s.rivals p)
+      | inr m ↦ or_second (intersects s.own p && (not s.hides || intersects s.covers p))
+          (intersects s.rivals p)
           (intersects_more s.rivals g p w m)
     ]
 
@@ -61,7 +65,8 @@ Ways s steps p g =
 module _ (s : StepState) (steps : List StepState) (p : List ℕ) where
   pub choices_in : intersects s.own p ≡ true
       → choices (s ∷ steps) p ≡ choices steps (first s p) ++ choices steps (second s p)
-  choices_in y = cond-true (intersects s.own p) (choices steps (first s p) ++ choices steps (second s p))
+  choices_in y = cond-true (intersects s.own p)
+      (choices steps (first s p) ++ choices steps (second s p))
       (choices steps p) y
 
   pub choices_out : intersects s.own p ≡ false → choices (s ∷ steps) p ≡ choices steps p

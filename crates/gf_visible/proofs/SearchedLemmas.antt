@@ -62,8 +62,10 @@ in_filter p T x i = same_truth (is_in (filter p T) x) (p x)
     (λ h. ((Contains-filter p T x).0 (from_list (filter p T) x h)).1)
     (λ h. in_list (filter p T) x ((Contains-filter p T x).1 (i, h)))
 
-intersects_agrees : (p : ℕ → Bool) (T t : List ℕ) → AreWithin t T → intersects (filter p T) t ≡ list_any p t
-intersects_agrees p T t into = any_agrees (is_in (filter p T)) p t (λ x i. in_filter p T x (into x i))
+intersects_agrees : (p : ℕ → Bool) (T t : List ℕ) → AreWithin t T → intersects (filter p T) t
+    ≡ list_any p t
+intersects_agrees p T t into = any_agrees (is_in (filter p T)) p t
+    (λ x i. in_filter p T x (into x i))
 
 without_agrees : (p : ℕ → Bool) (T t : List ℕ) → AreWithin t T
     → without (filter p T) t ≡ filter (λ x. not (p x)) t
@@ -247,7 +249,8 @@ module _ (h : List Op) (T t : List ℕ) (into : AreWithin t T) where
       }
   position_told g a = elim (cases_Bool (hides_at h a)) [
     | inl y ↦ rw y (ap (λ (z : List ℕ). state z)
-        (cond_not (intersects (rivals_of h T a) t) g (joined a g) ∙ ap (λ b. cond (not b) (joined a g) g)
+        (cond_not (intersects (rivals_of h T a) t) g (joined a g)
+        ∙ ap (λ b. cond (not b) (joined a g) g)
         (intersects_agrees (rivals (knows_at h) (follows_at h) a) T t into)))
     | inr n ↦ rw n refl
   ]

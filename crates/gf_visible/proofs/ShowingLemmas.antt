@@ -19,7 +19,8 @@ use Rattle.gf_maximal.specs.Growing.{is_in, intersects, without}
 use Rattle.gf_maximal.specs.Tables.{IsRising}
 use Rattle.gf_maximal.proofs.InsertLemmas.{inserted_all, holds_all}
 use Rattle.gf_base.proofs.FilterLemmas.{Contains-filter, list_all_true, list_all_from}
-use Rattle.gf_maximal.proofs.MaximalLemmas.{Within, from_list, not_in, intersects_one, intersects_from}
+use Rattle.gf_maximal.proofs.MaximalLemmas.{Within, from_list, not_in, intersects_one}
+use Rattle.gf_maximal.proofs.MaximalLemmas.{intersects_from}
 use Rattle.gf_maximal.proofs.MaximalLemmas.{Contains-without}
 use Rattle.gf_maximal.proofs.PairLemmas.{AllPairs-append}
 use Rattle.gf_base.proofs.RisingLemmas.{one_rising, rising_nil}
@@ -99,7 +100,8 @@ module _ (hides : ℕ → Bool) (covers rivals : ℕ → ℕ → Bool) (us : Lis
   hit x g t = let w = intersects_one (filter (rivals x) us) g t in
       (w.0, w.2, ((Contains-filter (rivals x) us w.0).0 w.1).1)
 
-  hit_from : (x : ℕ) (g : List ℕ) → Within g us → Hit g x → intersects (filter (rivals x) us) g ≡ true
+  hit_from : (x : ℕ) (g : List ℕ) → Within g us → Hit g x → intersects (filter (rivals x) us) g
+      ≡ true
   hit_from x g within w = intersects_from (filter (rivals x) us) g w.0
       ((Contains-filter (rivals x) us w.0).1 (within w.0 w.1, w.2)) w.1
 
@@ -128,10 +130,12 @@ module _ (hides : ℕ → Bool) (covers rivals : ℕ → ℕ → Bool) (us : Lis
   Held g x = (Contains g x × (hides x ≡ true → Cover g x)) ⊎ Hit g x
 
   held : (x : ℕ) (g : List ℕ) → holds g (step x) ≡ true → Held g x
-  held x g t = elim (or_cases (intersects (x ∷ []) g && (not (hides x) || intersects (step x).covers g))
+  held x g t = elim (or_cases
+      (intersects (x ∷ []) g && (not (hides x) || intersects (step x).covers g))
       (intersects (step x).rivals g) t) [
         | inl a ↦
-            let w = and_parts (intersects (x ∷ []) g) (not (hides x) || intersects (step x).covers g) a in
+            let w = and_parts (intersects (x ∷ []) g)
+            (not (hides x) || intersects (step x).covers g) a in
             inl (
               alone x g w.0,
               λ h. elim (or_cases (not (hides x)) (intersects (step x).covers g) w.1) [
@@ -144,17 +148,21 @@ module _ (hides : ℕ → Bool) (covers rivals : ℕ → ℕ → Bool) (us : Lis
 
   held_from : (x : ℕ) (g : List ℕ) → Within g us → Held g x → holds g (step x) ≡ true
   held_from x g within (inl w) =
-      let covered : (not (hides x) || intersects (step x).covers g) ≡ true = elim (cases_Bool (hides x)) [
+      let covered : (not (hides x) || intersects (step x).covers g)
+      ≡ true = elim (cases_Bool (hides x)) [
         | inl h ↦ or_second (not (hides x)) (intersects (step x).covers g)
             (cover_from x g within h (w.1 h))
-        | inr n ↦ or_first (not (hides x)) (intersects (step x).covers g) (not_from_false (hides x) n)
+        | inr n ↦ or_first (not (hides x)) (intersects (step x).covers g)
+            (not_from_false (hides x) n)
       ] in
       or_first (intersects (x ∷ []) g && (not (hides x) || intersects (step x).covers g))
       (intersects (step x).rivals g)
-      (and_from (intersects (x ∷ []) g) (not (hides x) || intersects (step x).covers g) (alone_from x g w.0)
+      (and_from (intersects (x ∷ []) g) (not (hides x) || intersects (step x).covers g)
+      (alone_from x g w.0)
       covered)
   held_from x g within (inr w) = or_second
-      (intersects (x ∷ []) g && (not (hides x) || intersects (step x).covers g)) (intersects (step x).rivals g)
+      (intersects (x ∷ []) g && (not (hides x) || intersects (step x).covers g))
+      (intersects (step x).rivals g)
       (hit_from x g within w)
 
   -- ---- what a choice holds

@@ -33,7 +33,8 @@ second s p = cond s.hides (without s.rivals p) (without s.own p)
 abbrev pub choices : List StepState → List ℕ → List (List ℕ)
 choices [] p = p ∷ []
 choices (s ∷ steps) p =
-    cond (intersects s.own p) (choices steps (first s p) ++ choices steps (second s p)) (choices steps p)
+    cond (intersects s.own p) (choices steps (first s p) ++ choices steps (second s p))
+    (choices steps p)
 
 -- the choices by these steps in which all hold
 abbrev pub answers : List StepState → List StepState → List ℕ → List (List ℕ)

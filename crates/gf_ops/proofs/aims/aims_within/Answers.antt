@@ -15,7 +15,8 @@ is_within_aim-requires-clause-aim c = rw c.aim.ensures (aim_rises c.args.op.now 
 pub returns-then-is_empty : goal.returns-then-is_empty
 returns-then-is_empty c =
     let none : aim_of c.args.member.now ≡ [] = sym c.aim-ids.ensures
-    ∙ (empty_told c.is_empty.result c.aim-ids.result.now c.is_empty.ensures).0 c.if-is_empty.true in (
+    ∙ (empty_told c.is_empty.result c.aim-ids.result.now c.is_empty.ensures).0 c.if-is_empty.true
+    in (
       λ t j m. absurd (not_Contains-nil j (subst (λ is. Contains is j) none m)),
       λ w. c.if-is_empty.true,
     )

@@ -7,6 +7,7 @@ returns-else-conflicts_with_brought c =
     let told = rw c.aim.ensures at c.aim_conflicts.ensures in (
       λ t. aim_conflict c.args.history.now.ops c.args.a.now c.args.b.now (told.0 t),
       λ conflict. told.1 (conflict_aim c.args.history.now.ops c.args.a.now c.args.b.now
-          (λ m. true≢false (sym (c.conflicts_with_brought.ensures.1 m) ∙ c.if-conflicts_with_brought.false))
+          (λ m. true≢false (sym (c.conflicts_with_brought.ensures.1 m)
+          ∙ c.if-conflicts_with_brought.false))
           conflict),
     )

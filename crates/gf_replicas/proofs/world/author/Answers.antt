@@ -13,9 +13,9 @@ returns-in_ok-push-in-Ok c =
     let world = state_of c.args.world.now in
     let found = c.in-Some.ensures.found in
     let x = c.index_mut.result.now in
-    let at = stands_at world.sites c.deref.result.now c.in-Some.place x c.deref.ensures.value
+    let at = stands_at world.sites c.deref.result.now c.in-Some.index x c.deref.ensures.value
     found.1 c.index_mut.ensures.value in
-    rw c.in_ok-push-in-Ok.ensures.items (authors_here world c.args.number c.in-Some.place found.0 x
+    rw c.in_ok-push-in-Ok.ensures.items (authors_here world c.args.number c.in-Some.index found.0 x
     c.author.new.self at c.args.change c.in-Ok.op c.in-Ok.ensures.ok)
 
 pub returns-in-Err : goal.returns-in-Err
@@ -23,8 +23,8 @@ returns-in-Err c =
     let world = state_of c.args.world.now in
     let found = c.in-Some.ensures.found in
     let x = c.index_mut.result.now in
-    let at = stands_at world.sites c.deref.result.now c.in-Some.place x c.deref.ensures.value
+    let at = stands_at world.sites c.deref.result.now c.in-Some.index x c.deref.ensures.value
     found.1 c.index_mut.ensures.value in
-    ok_gives c.unless_memory.result (λ n. refuses_here world c.args.number c.in-Some.place found.0 x
+    ok_gives c.unless_memory.result (λ n. refuses_here world c.args.number c.in-Some.index found.0 x
     c.author.new.self at c.args.change c.in-Err.fault c.in-Err.ensures.err n c.in-Err.ensures.same)
     c.unless_memory.ensures.ok

@@ -9,9 +9,9 @@ returns-in_ok-step c =
     let world = state_of c.args.world.now in
     let found = c.in-Some.ensures.found in
     let x = c.index_mut.result.now in
-    let at = stands_at world.sites c.deref.result.now c.in-Some.place x c.deref.ensures.value
+    let at = stands_at world.sites c.deref.result.now c.in-Some.index x c.deref.ensures.value
     found.1 c.index_mut.ensures.value in
-    steps_here world c.args.number c.in-Some.place found.0 x c.step.new.self at c.in_ok-step.field-0
+    steps_here world c.args.number c.in-Some.index found.0 x c.step.new.self at c.in_ok-step.field-0
     c.requires c.in_ok-step.ensures.ok
 
 pub returns-in_default : goal.returns-in_default

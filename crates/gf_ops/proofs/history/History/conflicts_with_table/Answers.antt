@@ -15,20 +15,23 @@ returns-in_default-change c =
 pub returns-then-conflicts_with_one : goal.returns-then-conflicts_with_one
 returns-then-conflicts_with_one c =
     let found = c.in-Some.ensures.found in
-    let told = some_conflicts c.args.self.now.ops c.ops.ensures.valid c.args.table.now c.in-Some.op.now
+    let told = some_conflicts c.args.self.now.ops c.ops.ensures.valid c.args.table.now
+    c.in-Some.op.now
     found.0 c.args.id found.1 c.in-Set.object c.in-Set.value c.in-Set.aim c.in-Set.is
-    c.place_of.result c.place_of.ensures.place c.in-Some-table.latest c.in-Some-table.is in
+    c.index_of.result c.index_of.ensures.value c.in-Some-table.latest c.in-Some-table.is in
     (λ t. told.0 (inl (c.conflicts_with_one.ensures.0 t)), λ q. c.if-conflicts_with_one.true)
 
 pub returns-else-conflicts_with_one : goal.returns-else-conflicts_with_one
 returns-else-conflicts_with_one c =
     let found = c.in-Some.ensures.found in
-    let told = some_conflicts c.args.self.now.ops c.ops.ensures.valid c.args.table.now c.in-Some.op.now
+    let told = some_conflicts c.args.self.now.ops c.ops.ensures.valid c.args.table.now
+    c.in-Some.op.now
     found.0 c.args.id found.1 c.in-Set.object c.in-Set.value c.in-Set.aim c.in-Set.is
-    c.place_of.result c.place_of.ensures.place c.in-Some-table.latest c.in-Some-table.is in (
+    c.index_of.result c.index_of.ensures.value c.in-Some-table.latest c.in-Some-table.is in (
       λ t. told.0 (inr (c.conflicts_with_one-else-conflicts_with_one.ensures.0 t)),
       λ q. elim (told.1 q) [
-        | inl a ↦ absurd (true≢false (sym (c.conflicts_with_one.ensures.1 a) ∙ c.if-conflicts_with_one.false))
+        | inl a ↦ absurd (true≢false
+            (sym (c.conflicts_with_one.ensures.1 a) ∙ c.if-conflicts_with_one.false))
         | inr a ↦ c.conflicts_with_one-else-conflicts_with_one.ensures.1 a
       ],
     )
@@ -38,4 +41,4 @@ returns-in-None c =
     let found = c.in-Some.ensures.found in
     never (none_conflicts c.args.self.now.ops c.ops.ensures.valid c.args.table.now c.in-Some.op.now
     found.0 c.args.id found.1 c.in-Set.object c.in-Set.value c.in-Set.aim c.in-Set.is
-    c.place_of.result c.place_of.ensures.place c.in-None.is)
+    c.index_of.result c.index_of.ensures.value c.in-None.is)

@@ -8,9 +8,9 @@ pub returns-in-Some : goal.returns-in-Some
 returns-in-Some c = λ ids above tells.
     let new = c.next_latest.ensures ids c.args.site above
     (subst (λ k. TellsOne c.args.self.now.ops ids c.args.site k
-    (slice_index_or c.args.table.now c.place_of-place.result None)) c.place_of-place.ensures.place
-    (tells.each c.place_of-place.result c.place_of-place.ensures.below)) c.in-Some.ensures.found in
-    rw c.place_of-place.ensures.place (tells_more c.args.self.now.ops c.ops.ensures.valid ids
+    (slice_index_or c.args.table.now c.index_of-index.result None)) c.index_of-index.ensures.value
+    (tells.each c.index_of-index.result c.index_of-index.ensures.below)) c.in-Some.ensures.found in
+    rw c.index_of-index.ensures.value (tells_more c.args.self.now.ops c.ops.ensures.valid ids
     c.args.site c.args.id c.in-Some.value.now c.in-Some.ensures.found c.args.table.now
     c.next_latest.result tells new)
 

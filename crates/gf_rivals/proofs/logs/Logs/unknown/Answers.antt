@@ -5,7 +5,7 @@ use Rattle.gf_rivals.proofs.logs.Logs.unknown.Goals as goal
 pub loop-site-preserved : goal.loop-site-preserved
 loop-site-preserved c =
     site_more c.args.self.now c.args.attribute c.args.past.now c.loop-site.site
-    (c.loop-site.site + 1) (c.attribute_index-first.result * 8) c.loop-site.found
+    (c.loop-site.site + 1) (c.index-first.result * 8) c.loop-site.found
     c.in_ok-found.found
     (omega arith) (search rules) c.loop-site.invariant (search rules)
 
