@@ -44,11 +44,12 @@ module _ {X : Type 0} (R : X → X → Ordering) (total : IsTotalOrder R) where
 
   in_tail : (x y : X) (xs ys : List X) → IsStrictlySortedBy R (x ∷ xs) → x ≡ y → (a : X)
       → (Contains (x ∷ xs) a → Contains (y ∷ ys) a) → Contains xs a → Contains ys a
-  in_tail x y xs ys s e a f h = elim (Contains-cons_cases y ys a (f (Contains-cons_tail x xs a h))) [
-    | inl d ↦ let l = below_tail x xs s a h in let t = tied_itself total x in let q : a ≡ x = d
-        ∙ sym e in let l2 : R x x ≡ Less = subst (λ z. R x z ≡ Less) q l in absurd cc
-    | inr i ↦ i
-  ]
+  in_tail x y xs ys s e a f h =
+      elim (Contains-cons_cases y ys a (f (Contains-cons_tail x xs a h))) [
+        | inl d ↦ let l = below_tail x xs s a h in let t = tied_itself total x in let q : a ≡ x = d
+            ∙ sym e in let l2 : R x x ≡ Less = subst (λ z. R x z ≡ Less) q l in absurd cc
+        | inr i ↦ i
+      ]
 
   pub one_rising : (g h : List X) → IsStrictlySortedBy R g → IsStrictlySortedBy R h
       → ((a : X) → Contains g a ↔ Contains h a) → g ≡ h

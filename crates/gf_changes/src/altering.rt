@@ -39,8 +39,8 @@ fn wishes_of(
     matching: &Matching,
 ) -> Result<Vec<Option<Value>>, OutOfMemory> {
     let mut wishes = Vec::with_capacity(alloc, versions.len())?;
-    for (version, place) in versions.iter().zip(matching.figures.iter()) {
-        let wish = match place.and_then(|f| targets.get(f)) {
+    for (version, figure) in versions.iter().zip(matching.figures.iter()) {
+        let wish = match figure.and_then(|f| targets.get(f)) {
             Some(figure) => wish_of(alloc, attribute, version, figure)?,
             None => None,
         };
@@ -135,9 +135,9 @@ fn hide_all(
     changes: &mut Vec<Change>,
 ) -> Result<(), OutOfMemory> {
     let mut hidden: Vec<ObjectId> = Vec::new(alloc);
-    for (version, place) in versions.iter().zip(matching.figures.iter()) {
+    for (version, figure) in versions.iter().zip(matching.figures.iter()) {
         let object = version.key.object;
-        if place.is_none() && !hidden.contains(&object) {
+        if figure.is_none() && !hidden.contains(&object) {
             hidden.push(object)?;
             hide_of(alloc, history, versions, matching, object, changes)?;
         }
@@ -156,8 +156,8 @@ fn hide_of(
     changes: &mut Vec<Change>,
 ) -> Result<(), OutOfMemory> {
     let mut shows = Vec::new(alloc);
-    for (version, place) in versions.iter().zip(matching.figures.iter()) {
-        if version.key.object == object && place.is_some() {
+    for (version, figure) in versions.iter().zip(matching.figures.iter()) {
+        if version.key.object == object && figure.is_some() {
             let aim = aim_to_keep(alloc, history, version)?;
             if MOST_AIMED < aim.as_slice().len() {
                 return hide_each(alloc, history, versions, matching, object, changes);
@@ -182,8 +182,8 @@ fn hide_each(
     changes: &mut Vec<Change>,
 ) -> Result<(), OutOfMemory> {
     let mut wishes = Vec::with_capacity(alloc, versions.len())?;
-    for (version, place) in versions.iter().zip(matching.figures.iter()) {
-        let is_hidden = version.key.object == object && place.is_none();
+    for (version, figure) in versions.iter().zip(matching.figures.iter()) {
+        let is_hidden = version.key.object == object && figure.is_none();
         wishes.push(is_hidden.then_some(Value::Shown(false)))?;
     }
     change_all(alloc, history, versions, wishes, changes)

@@ -16,9 +16,9 @@ pub(crate) fn layers_for(
     alloc: Global,
     versions: &[Version],
     targets: &[Target],
-    places: &[Option<usize>],
+    followers: &[Option<usize>],
 ) -> Result<Vec<u16>, OutOfMemory> {
-    let rows = rows_of(alloc, versions, targets, places)?;
+    let rows = rows_of(alloc, versions, targets, followers)?;
     layers_of(alloc, &rows)
 }
 
@@ -27,10 +27,10 @@ pub(crate) fn layer_changes(
     alloc: Global,
     history: &History,
     versions: &[Version],
-    places: &[Option<usize>],
+    followers: &[Option<usize>],
     layers: &[u16],
 ) -> Result<Vec<Change>, OutOfMemory> {
-    let wishes = layer_wishes(alloc, versions, places, layers)?;
+    let wishes = layer_wishes(alloc, versions, followers, layers)?;
     let mut changes = Vec::new(alloc);
     change_all(alloc, history, versions, wishes, &mut changes)?;
     Ok(changes)
@@ -40,12 +40,12 @@ pub(crate) fn layer_changes(
 pub(crate) fn creations_of(
     alloc: Global,
     targets: Vec<Target>,
-    places: &[Option<usize>],
+    followers: &[Option<usize>],
     layers: &[u16],
 ) -> Result<Vec<Change>, OutOfMemory> {
     let mut creations = Vec::new(alloc);
-    for (figure, (place, layer)) in targets.into_iter().zip(places.iter().zip(layers.iter())) {
-        if place.is_none() {
+    for (figure, (follower, layer)) in targets.into_iter().zip(followers.iter().zip(layers.iter())) {
+        if follower.is_none() {
             creations.push(Change::Create(Start {
                 layer: *layer,
                 ..figure.start
@@ -63,18 +63,18 @@ pub(crate) fn followed(
     versions: &[Version],
     matching: &Matching,
 ) -> Result<Vec<Option<usize>>, OutOfMemory> {
-    let mut places = Vec::with_capacity(alloc, matching.versions.len())?;
-    for place in matching.versions.iter() {
-        let found = place.and_then(|v| before.get(v).and_then(|old| follower(old, v, versions)));
-        places.push(found)?;
+    let mut followers = Vec::with_capacity(alloc, matching.versions.len())?;
+    for version in matching.versions.iter() {
+        let found = version.and_then(|v| before.get(v).and_then(|old| follower(old, v, versions)));
+        followers.push(found)?;
     }
-    Ok(places)
+    Ok(followers)
 }
 
-/// The version of the new list that has all operations of an old one. Most keep their places.
-fn follower(old: &Version, place: usize, versions: &[Version]) -> Option<usize> {
-    if versions.get(place).is_some_and(|new| follows(new, old)) {
-        return Some(place);
+/// The version of the new list that has all operations of an old one. Most keep their indices.
+fn follower(old: &Version, index: usize, versions: &[Version]) -> Option<usize> {
+    if versions.get(index).is_some_and(|new| follows(new, old)) {
+        return Some(index);
     }
     versions.iter().position(|new| follows(new, old))
 }
@@ -89,11 +89,11 @@ fn rows_of(
     alloc: Global,
     versions: &[Version],
     targets: &[Target],
-    places: &[Option<usize>],
+    followers: &[Option<usize>],
 ) -> Result<Vec<Row>, OutOfMemory> {
     let mut rows = Vec::with_capacity(alloc, targets.len())?;
-    for (figure, place) in targets.iter().zip(places.iter()) {
-        let spot = place.and_then(|v| {
+    for (figure, follower) in targets.iter().zip(followers.iter()) {
+        let spot = follower.and_then(|v| {
             versions.get(v).map(|version| Spot {
                 layer: version.key.layer,
                 rank: Some(v),
@@ -124,15 +124,15 @@ fn standing_of(figure: &Target, is_version: bool) -> Standing {
 fn layer_wishes(
     alloc: Global,
     versions: &[Version],
-    places: &[Option<usize>],
+    followers: &[Option<usize>],
     layers: &[u16],
 ) -> Result<Vec<Option<Value>>, OutOfMemory> {
     let mut wishes = Vec::with_capacity(alloc, versions.len())?;
     for _ in versions {
         wishes.push(None)?;
     }
-    for (place, layer) in places.iter().zip(layers.iter()) {
-        let wish = place.and_then(|v| wishes.get_mut(v).zip(versions.get(v)));
+    for (follower, layer) in followers.iter().zip(layers.iter()) {
+        let wish = follower.and_then(|v| wishes.get_mut(v).zip(versions.get(v)));
         if let Some((wish, version)) = wish {
             if version.key.layer != *layer {
                 *wish = Some(Value::Layer(*layer));

@@ -8,7 +8,7 @@ use gf_shape::OutOfMemory;
 use gf_versions::Version;
 use std::alloc::Global;
 
-/// Which version each figure is, and which figure each version is, by their places in both lists.
+/// Which version each figure is, and which figure each version is, by their indices in both lists.
 #[derive(Debug, Drop)]
 pub(crate) struct Matching {
     pub(crate) versions: Vec<Option<usize>>,
@@ -47,13 +47,13 @@ pub(crate) fn matched(
     Ok(matching)
 }
 
-/// A list of so many places, none of which is matched.
+/// A list of so many entries, none of which is matched.
 fn unmatched(alloc: Global, count: usize) -> Result<Vec<Option<usize>>, OutOfMemory> {
-    let mut places = Vec::with_capacity(alloc, count)?;
+    let mut entries = Vec::with_capacity(alloc, count)?;
     for _ in 0..count {
-        places.push(None)?;
+        entries.push(None)?;
     }
-    Ok(places)
+    Ok(entries)
 }
 
 /// Matches what may be one in this way and differs in so many attributes.
@@ -65,7 +65,7 @@ fn match_all(
     way: Way,
     count: usize,
 ) {
-    // Each version before this place is matched.
+    // Each version before this index is matched.
     let mut first = 0;
     for (f, figure) in targets.iter().enumerate() {
         if !is_free(&matching.versions, f) {
@@ -83,19 +83,19 @@ fn match_all(
     }
 }
 
-/// Whether the place of a list is there and matched with nothing.
-fn is_free(places: &[Option<usize>], place: usize) -> bool {
-    places.get(place).is_some_and(|other| other.is_none())
+/// Whether the entry of a list is there and matched with nothing.
+fn is_free(entries: &[Option<usize>], index: usize) -> bool {
+    entries.get(index).is_some_and(|other| other.is_none())
 }
 
 impl Matching {
     /// Matches a figure and a version.
     fn pair(&mut self, figure: usize, version: usize) {
-        if let Some(place) = self.versions.get_mut(figure) {
-            *place = Some(version);
+        if let Some(entry) = self.versions.get_mut(figure) {
+            *entry = Some(version);
         }
-        if let Some(place) = self.figures.get_mut(version) {
-            *place = Some(figure);
+        if let Some(entry) = self.figures.get_mut(version) {
+            *entry = Some(figure);
         }
     }
 }
@@ -126,6 +126,6 @@ fn is_named(version: &Version, name: &Named) -> bool {
 
 /// Whether a clock does not count the operation of this id.
 fn is_newer(id: OpId, seen: &Clock) -> bool {
-    let place = usize::from(id.site).saturating_sub(1);
-    seen.0.get(place).copied().unwrap_or(0) < id.seq
+    let index = usize::from(id.site).saturating_sub(1);
+    seen.0.get(index).copied().unwrap_or(0) < id.seq
 }

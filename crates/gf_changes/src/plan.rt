@@ -63,15 +63,15 @@ pub fn planned(
     let Some(versions) = visible(alloc, &changed)? else {
         return Ok(plan);
     };
-    let places = followed(alloc, &before, &versions, &matching)?;
-    let layers = layers_for(alloc, &versions, &targets, &places)?;
+    let followers = followed(alloc, &before, &versions, &matching)?;
+    let layers = layers_for(alloc, &versions, &targets, &followers)?;
     plan.hidden = count_free(&matching.figures);
     plan.drawn = count_free(&matching.versions);
-    plan.changed = count_changed(&before, &versions, &targets, &matching, &places, &layers);
+    plan.changed = count_changed(&before, &versions, &targets, &matching, &followers, &layers);
     let history = changed.history();
-    let mut raised = layer_changes(alloc, history, &versions, &places, &layers)?;
+    let mut raised = layer_changes(alloc, history, &versions, &followers, &layers)?;
     plan.changes.append(&mut raised)?;
-    let mut drawn = creations_of(alloc, targets, &places, &layers)?;
+    let mut drawn = creations_of(alloc, targets, &followers, &layers)?;
     plan.changes.append(&mut drawn)?;
     Ok(plan)
 }
@@ -82,12 +82,12 @@ fn count_changed(
     versions: &[Version],
     targets: &[Target],
     matching: &Matching,
-    places: &[Option<usize>],
+    followers: &[Option<usize>],
     layers: &[u16],
 ) -> usize {
     let is_changed = |(f, target): &(usize, &Target)| {
         let old = matching.versions.get(*f).copied().flatten();
-        let new = places.get(*f).copied().flatten();
+        let new = followers.get(*f).copied().flatten();
         old.and_then(|v| before.get(v))
             .and_then(|old| compared(old, &target.start))
             .is_some_and(|difference| difference.count() != 0)
@@ -98,9 +98,9 @@ fn count_changed(
     targets.iter().enumerate().filter(is_changed).count()
 }
 
-/// How many places are matched with nothing.
-fn count_free(places: &[Option<usize>]) -> usize {
-    places.iter().filter(|place| place.is_none()).count()
+/// How many entries are matched with nothing.
+fn count_free(followers: &[Option<usize>]) -> usize {
+    followers.iter().filter(|follower| follower.is_none()).count()
 }
 
 /// The visible versions of a site from the top, if they are no more than a drawing has.

@@ -78,7 +78,7 @@ impl Telling {
     }
 }
 
-/// The place of a cause in the order of the checks.
+/// The index of a cause in the order of the checks.
 fn check_number(fault: OpFault) -> u8
     ensures { result ≡ check_number fault }
 {

@@ -48,7 +48,8 @@ filter-with_new c d cs = elim (cases_Bool (colour_eq d c)) [
         | inr new ↦ rw (new, filter-append (λ x. not (colour_eq d x)) cs (c ∷ []), t, append-nil)
       ])
   | inr t ↦
-      rw (rgb_false c d t, list_any-filter c d cs t) (elim (cases_Bool (list_any (colour_eq c) cs)) [
+      rw (rgb_false c d t, list_any-filter c d cs t)
+      (elim (cases_Bool (list_any (colour_eq c) cs)) [
         | inl there ↦ rw there
         | inr new ↦ rw (new, filter-append (λ x. not (colour_eq d x)) cs (c ∷ []), t)
       ])

@@ -53,7 +53,7 @@ free_next table cs n numbered long few =
     let free : is_none (colour_in table (32 + n)) ≡ true = rw none refl in
     and_from _ _ (in_table (32 + n) (omega arith) (omega arith)) free
 
--- the colour under the number of a place is the one that stands there
+-- the colour under the number of an index is the one that stands there
 at_place : (p : Rgb → Bool) (m : ℕ) (cs : List Rgb)
     → colour_in (enumerate_from m cs) (m + position_or_len p cs) ≡ find p cs
 at_place p m [] = refl

@@ -127,8 +127,8 @@ fn number(colours: &IndexSet<Rgb>, colour: Rgb) -> u16
     requires there { IsTrue (list_any (colour_eq colour) colours.now.keys) }
     ensures { result ≡ number_of colours.now.keys colour }
 {
-    let Some(place) = colours.get_index_of(&colour) else {
+    let Some(index) = colours.get_index_of(&colour) else {
         unreachable!();
     };
-    FIRST_NUMBER + place as u16
+    FIRST_NUMBER + index as u16
 }

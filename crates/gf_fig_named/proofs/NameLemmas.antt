@@ -28,7 +28,7 @@ use Rattle.gf_fig_named.specs.Others.{AreElsewhere, IsNameAmong, ids_of}
 
 -- ---- one more of a list
 
--- x stands in xs at place k
+-- x stands in xs at index k
 module _ {X : Type 0} (xs : List X) (k : ℕ) (x : X) (l : k < length xs)
     (is : x ≡ get_or xs k x) where
   pub taken : take (k + 1) xs ≡ take k xs ++ x ∷ []
@@ -89,7 +89,7 @@ any_default [] k d e l = absurd (omega (arith, l))
 any_default (x ∷ xs) zero d e l = refl
 any_default (x ∷ xs) (suc k) d e l = any_default xs k d e (omega (arith, l))
 
--- the same, by what a loop has at place k
+-- the same, by what a loop has at index k
 module _ {X : Type 0} (P : X → Type 0) (xs : List X) (k : ℕ) (d : X) (l : k < length xs)
     (old : List X) (so : (y : X) → Contains old y ↔ (Contains (take k xs) y × P y)) where
   pub keeps_at : (new : List X) → new ≡ old ++ get_or xs k d ∷ [] → P (get_or xs k d) → (y : X)

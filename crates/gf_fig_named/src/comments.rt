@@ -106,7 +106,7 @@ fn push_telling(out: &mut Vec<u8>, ids: &[OpId]) -> Result<(), AllocError>
     Ok(())
 }
 
-/// Appends an id of a name, which is at this place.
+/// Appends an id of a name, which has this index.
 fn push_nth(out: &mut Vec<u8>, index: usize, id: OpId) -> Result<(), AllocError>
     ensures { OnOk result (out.new.items ≡ out.old.items ++ nth_id (index, id)) }
 {

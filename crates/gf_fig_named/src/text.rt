@@ -110,15 +110,15 @@ fn push_named(
 }
 
 /// The depth of a figure of a named text, which has so many.
-fn named_depth(count: usize, place: u16) -> u16
-    requires { place < 1000 }
-    ensures { result ≡ named_depth count place }
+fn named_depth(count: usize, depth: u16) -> u16
+    requires { depth < 1000 }
+    ensures { result ≡ named_depth count depth }
 {
     if count <= 94 {
-        60 + 10 * place
+        60 + 10 * depth
     } else if count <= 940 {
-        60 + place
+        60 + depth
     } else {
-        place
+        depth
     }
 }

@@ -51,7 +51,7 @@ fn line_len(text: &[u8]) -> usize
     ensures within { result ≤ length text.now }
 {
     match first_line_feed(text) {
-        Some(place) => place,
+        Some(index) => index,
         None => text.len(),
     }
 }
@@ -63,7 +63,7 @@ fn word_len(line: &[u8]) -> usize
     ensures within { result ≤ length line.now }
 {
     match first_blank(line) {
-        Some(place) => place,
+        Some(index) => index,
         None => line.len(),
     }
 }
@@ -75,7 +75,7 @@ fn blanks_len(line: &[u8]) -> usize
     ensures within { result ≤ length line.now }
 {
     match first_filled(line) {
-        Some(place) => place,
+        Some(index) => index,
         None => line.len(),
     }
 }

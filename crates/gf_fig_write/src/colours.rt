@@ -23,7 +23,7 @@ pub fn push_table(out: &mut Vec<u8>, table: &ColourTable) -> Result<(), AllocErr
     Ok(())
 }
 
-/// Appends the line of the colour at place `i`, if there is one.
+/// Appends the line of the colour with the index `i`, if there is one.
 fn push_entry(out: &mut Vec<u8>, table: &ColourTable, i: usize) -> Result<(), AllocError>
     ensures text { OnOk result (out.new.items
         ≡ out.old.items ++ unwrap_or (option_map colour_line (slice_get table.now i)) []) }

@@ -48,7 +48,7 @@ impl ColourTable {
         self.entries.is_empty()
     }
 
-    /// The number and the colour at place `i`, counted from 0.
+    /// The number and the colour with the index `i`, counted from 0.
     pub fn at(&self, i: usize) -> Option<(u16, Rgb)>
         ensures { result ≡ slice_get self.now i }
     {

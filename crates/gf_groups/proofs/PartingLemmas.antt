@@ -74,7 +74,8 @@ parts_more h n a m new l e parts adds o = elim (cases_Bool (is_at (object_cmp (o
       ∙ (ap (λ xs. Some (xs ++ n ∷ [])) (unwrap_or-nonempty (positions_below h o n))
       ∙ (sym (nonempty-push (positions_below h o n) n) ∙ ap nonempty (sym more)))))
   | inr t ↦
-      let other : id_eq (object_of a).0 o.0 ≡ false = elim (cases_Bool (id_eq (object_of a).0 o.0)) [
+      let other : id_eq (object_of a).0 o.0
+      ≡ false = elim (cases_Bool (id_eq (object_of a).0 o.0)) [
         | inl k ↦
             let same = (id_decided (object_of a).0 o.0).0 k in
             let tie : object_cmp (object_of a) o ≡ object_cmp o o = ap (λ i. id_cmp i o.0) same in

@@ -272,7 +272,8 @@ among_listed : (h ops : List Op) → ((a : Op) → Contains ops a → Contains h
     → Contains (versions_among h ops) g → IsVersionGroup h g
 among_listed h [] f g c = absurd (not_Contains-nil g c)
 among_listed h (a ∷ ops) f g c =
-    elim (Contains-append_cases (made_versions h a (made_kind a.change)) (versions_among h ops) g c) [
+    elim (Contains-append_cases (made_versions h a (made_kind a.change)) (versions_among h ops) g
+    c) [
       | inl i ↦ made_listed h a (made_kind a.change) (f a (Contains-cons_head a ops)) refl g i
       | inr i ↦ among_listed h ops (λ b j. f b (Contains-cons_tail a ops b j)) g i
     ]

@@ -173,7 +173,8 @@ module _ (h : List Op) (valid : IsValid h) where
       → (y : Op) × IsOfSite h ids t y × DirectConflict m.op y
   table_tells ids t table tells i m =
       let k : IsLatest h ids t (index_of m.value) m.latest = subst
-      (TellsOne h ids t (index_of m.value)) m.at (tells.each (index_of m.value) (attribute_index_below (attribute_of m.value)))
+      (TellsOne h ids t (index_of m.value)) m.at
+      (tells.each (index_of m.value) (attribute_index_below (attribute_of m.value)))
       in
       elim m.conflicts [
         | inl a ↦ (

@@ -11,7 +11,8 @@ use Rattle.gf_ops.specs.declared.change.Change.{Change}
 use Rattle.gf_ops.specs.declared.change.Change.TheVariants.{Create, Set}
 use Rattle.gf_ops.specs.declared.change.Value.{Value}
 use Rattle.gf_ops.specs.AimWalk.{index_of, Sets}
-use Rattle.gf_ops.specs.Attribute.{attribute_index, attribute_of, change_value, value_as, changed_object, object_of}
+use Rattle.gf_ops.specs.Attribute.{attribute_index, attribute_of, change_value, value_as}
+use Rattle.gf_ops.specs.Attribute.{changed_object, object_of}
 use Rattle.gf_ops.specs.ConflictTests.{value_eq, sets_another}
 use Rattle.gf_ops.specs.DirectConflict.{SetApart, DirectConflict}
 use Rattle.gf_ops.specs.KnownObject.{IsSuited}
@@ -42,7 +43,8 @@ sets_apart x y v w s r e n = record {
   first = v;
   second = w;
   first_given = ap (λ c. change_value c (attribute_of w)) s.is
-      ∙ (ap (value_as v) (sym (one_attribute (attribute_of v) (attribute_of w) e)) ∙ value_as-own v);
+      ∙ (ap (value_as v) (sym (one_attribute (attribute_of v) (attribute_of w) e))
+      ∙ value_as-own v);
   second_given = ap (λ c. change_value c (attribute_of w)) r.is ∙ value_as-own w;
   differ = n;
 }
@@ -59,7 +61,8 @@ other_told x v w s t e =
 pub other_from : (x : Op) (v w : Value) → Sets x v → index_of v ≡ index_of w → v ≢ w
     → sets_another x.change w ≡ true
 other_from x v w s e n =
-    let given : value_as v (attribute_of w) ≡ Some v = ap (value_as v) (sym (one_attribute (attribute_of v) (attribute_of w) e))
+    let given : value_as v (attribute_of w)
+    ≡ Some v = ap (value_as v) (sym (one_attribute (attribute_of v) (attribute_of w) e))
     ∙ value_as-own v in
     subst (λ c. sets_another c w ≡ true) (sym s.is) (rw given (another_from v w n))
 

@@ -77,8 +77,8 @@ pub record GivesAnother (h : List Op) (i : OpId) (w : Value) : Type 0 where
   pub id : op.id ≡ i
   pub another : sets_another op.change w ≡ true
 
--- of the operations of site t under the ids, l names the last setter of the attribute with the index k. Its `other` is
--- the last setter there of another value, or any one where all give one value
+-- of the operations of site t under the ids, l names the last setter of the attribute with the
+-- index k. Its `other` is the last setter there of another value, or any one where all give one
 pub record IsLatest (h : List Op) (ids : List OpId) (t k : ℕ) (l : Latest) : Type 0 where
   pub value : Value
   pub nearest : SetsAt h t l.nearest value

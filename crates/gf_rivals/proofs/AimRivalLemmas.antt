@@ -3,7 +3,7 @@
 use Rattle.std.proofs.Common.{◌≡◌, ℕ, List, length, inl, inr, refl, subst, sym, ap, ◌∙◌}
 use Rattle.std.specs.Prelude.{◌⊎◌, ◌↔◌, Contains, Option, Some, None, slice_get}
 use Rattle.std.proofs.lemmas.Option.{slice_get_read}
-use Rattle.gf_maximal.proofs.MaximalLemmas.{meets_one, meets_from}
+use Rattle.gf_maximal.proofs.MaximalLemmas.{intersects_one, intersects_from}
 use Rattle.gf_ops.specs.declared.op.Op.{Op}
 use Rattle.gf_ops.specs.declared.op.OpId.{OpId}
 use Rattle.gf_ops.specs.declared.op.ObjectId.{ObjectId}
@@ -202,7 +202,7 @@ module _ (h : List Op) (o : ObjectId) (ls : List (List Setter)) (logs : AreLogsO
     aiming_conflicts : (n : ℕ) → AimsAtOne es r n → IsConflict h ls a n
     aiming_conflicts n w =
         let s = aimed.each w.state w.listed in
-        let m = meets_one w.state.aim r w.met in
+        let m = intersects_one w.state.aim r w.met in
         let k = (s.aim m.0).0 m.1 in
         let t = (met m.0).0 m.2 in
         let same : t.direct.op ≡ k.op = one_op m.0 t.direct.position k.position t.direct.op k.op
@@ -274,7 +274,7 @@ module _ (h : List Op) (o : ObjectId) (ls : List (List Setter)) (logs : AreLogsO
             state = state.state;
             listed = state.listed;
             number = state.number;
-            met = meets_from state.state.aim r p.0 aims hit;
+            met = intersects_from state.state.aim r p.0 aims hit;
           })
     ]
 

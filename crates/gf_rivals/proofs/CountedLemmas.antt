@@ -16,6 +16,7 @@ use Rattle.gf_rivals.specs.KeptLogs.{Kept, log_at, all_logs, AreBelow, AreCounte
 use Rattle.gf_rivals.specs.KeptLogs.{KeepsNoOthers, PutsLog, KeepsLogs}
 use Rattle.gf_rivals.proofs.KeptLemmas.{at_other, log_seen}
 use Rattle.gf_rivals.proofs.LongerLemmas.{get_cases}
+use Rattle.gf_rivals.specs.declared.logs.TheConstants.{LOGS}
 
 -- no log is kept under an index from n on, where one is put under an index below
 AreBelow-puts : (es fs : Kept) (x n : ℕ) (ss : List Setter) → x < n → AreBelow n es
@@ -45,7 +46,7 @@ set_cases (c ∷ ls) (suc k) (suc j) x = elim (set_cases ls k j x) [
 -- logs without a setter are counted by any clock
 pub AreCounted-none : (latest : Clock) (es : Kept) → es ≡ [] → AreCounted latest (all_logs es)
 AreCounted-none latest es none t s p e l at =
-    let below : AreBelow 48 es = subst (AreBelow 48) (sym none) (λ k m. refl) in
+    let below : AreBelow LOGS es = subst (AreBelow LOGS) (sym none) (λ k m. refl) in
     let empty : setters (all_logs es) t s ≡ [] = sym (log_seen es (log_of t s) below)
     ∙ ap (λ z. log_at z (log_of t s)) none in
     let nothing : None ≡ Some e = ap (λ z. slice_get z p) (sym empty) ∙ at in
@@ -90,7 +91,7 @@ AreCounted-pushed (Err x) latest new ls ds t s a k counted within own ok err = s
     omega (arith, known, more))
 
 -- what counts all setters counts some of them
-pub AreCounted-fewer : (latest : Clock) (es fs : Kept) → AreBelow 48 es → AreBelow 48 fs
+pub AreCounted-fewer : (latest : Clock) (es fs : Kept) → AreBelow LOGS es → AreBelow LOGS fs
     → KeepsNoOthers es fs
     → AreCounted latest (all_logs es) → AreCounted latest (all_logs fs)
 AreCounted-fewer latest es fs below below' rest counted t s p e l at =

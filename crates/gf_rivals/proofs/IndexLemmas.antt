@@ -24,6 +24,7 @@ use Rattle.gf_rivals.proofs.SetterIndexLemmas.{log_number}
 use Rattle.gf_rivals.proofs.SetterLemmas.{at_index}
 use Rattle.gf_rivals.proofs.NumberLemmas.{some_one, got_at, number_in}
 use Rattle.gf_ops.proofs.AttributeLemmas.{attribute_index_below}
+use Rattle.gf_rivals.specs.declared.logs.TheConstants.{LOGS}
 
 -- ---- one more number
 
@@ -210,7 +211,7 @@ below_more h ls k old new f g p n = (
   ]),
 )
 
-pub index_made : (h : List Op) (ls : List (List Setter)) (k : ℕ) (ix : Entries) → k ≡ 48
+pub index_made : (h : List Op) (ls : List (List Setter)) (k : ℕ) (ix : Entries) → k ≡ LOGS
     → ((p : Fingerprint) (n : ℕ) → Contains (numbers_at ix p) n ↔ IsListedBelow h ls k p n)
     → IsIndex h ls ix
 index_made h ls k ix e f p n = (

@@ -16,6 +16,7 @@ use Rattle.gf_rivals.specs.declared.log.Setter.{Setter}
 use Rattle.gf_rivals.specs.KeptLogs.{Kept, log_at, logs_from, all_logs, AreBelow, PutsLog}
 use Rattle.gf_rivals.specs.KeptLogs.{KeepsLogs}
 use Rattle.gf_rivals.specs.Logs.{no_logs, log_of, setters, with_setter, with_log}
+use Rattle.gf_rivals.specs.declared.logs.TheConstants.{LOGS}
 
 at_itself : (k : ℕ) → is_at (nat_cmp k) k ≡ true
 at_itself k = ap is_eq (tied_itself nat_cmp_total k)
@@ -68,23 +69,23 @@ put-from es fs ss x k (suc n) (suc i) l e a f =
 -- ---- all logs
 
 -- what is not kept is seen as no setters
-pub log_seen : (es : Kept) (i : ℕ) → AreBelow 48 es → log_at es i ≡ get_or (all_logs es) i []
+pub log_seen : (es : Kept) (i : ℕ) → AreBelow LOGS es → log_at es i ≡ get_or (all_logs es) i []
 unfolding all_logs
-log_seen es i b = elim (cases_lt i 48) [
-  | inl l ↦ sym (get-from es 0 48 i i [] l (omega arith))
+log_seen es i b = elim (cases_lt i LOGS) [
+  | inl l ↦ sym (get-from es 0 LOGS i i [] l (omega arith))
   | inr l ↦ ap (λ (o : Option (List Setter)). unwrap_or o []) (b i l)
-      ∙ sym (past-from es 0 48 i [] l)
+      ∙ sym (past-from es 0 LOGS i [] l)
 ]
 
 pub keeps_all : (es fs : Kept) → KeepsLogs es fs → all_logs fs ≡ all_logs es
 unfolding all_logs
-keeps_all es fs f = same-from es fs 0 48 (λ j. ap (λ (o : Option (List Setter)). unwrap_or o [])
+keeps_all es fs f = same-from es fs 0 LOGS (λ j. ap (λ (o : Option (List Setter)). unwrap_or o [])
     (f j))
 
-pub puts_all : (es fs : Kept) (ss : List Setter) (x : ℕ) → x < 48 → PutsLog es x ss fs
+pub puts_all : (es fs : Kept) (ss : List Setter) (x : ℕ) → x < LOGS → PutsLog es x ss fs
     → all_logs fs ≡ set (all_logs es) x ss
 unfolding all_logs
-puts_all es fs ss x l f = put-from es fs ss x 0 48 x l (omega arith)
+puts_all es fs ss x l f = put-from es fs ss x 0 LOGS x l (omega arith)
     (ap (λ (o : Option (List Setter)). unwrap_or o [])
     (f x ∙ cond-true (is_at (nat_cmp x) x) (Some ss) (lookup (is_at (nat_cmp x)) es) (at_itself x)))
     (λ j n. ap (λ (o : Option (List Setter)). unwrap_or o [])
@@ -93,17 +94,17 @@ puts_all es fs ss x l f = put-from es fs ss x 0 48 x l (omega arith)
 
 pub none_all : (es : Kept) → es ≡ [] → all_logs es ≡ no_logs
 unfolding all_logs
-none_all es e = ap (λ z. logs_from z 0 48) e ∙ nothing 0 48
+none_all es e = ap (λ z. logs_from z 0 LOGS) e ∙ nothing 0 LOGS
   where
     nothing : (k n : ℕ) → logs_from [] k n ≡ repeat n ([] ∷ [])
     nothing k zero = refl
     nothing k (suc n) = let r = nothing (suc k) n in λ i. [] ∷ r i
 
--- a log that is kept has an index below 48
-pub kept_below : (es : Kept) (k : ℕ) (r : Option (Bor (List Setter))) → AreBelow 48 es
-    → option_copied r ≡ lookup (is_at (nat_cmp k)) es → IfSome r (λ z. k < 48)
+-- a log that is kept has an index below LOGS
+pub kept_below : (es : Kept) (k : ℕ) (r : Option (Bor (List Setter))) → AreBelow LOGS es
+    → option_copied r ≡ lookup (is_at (nat_cmp k)) es → IfSome r (λ z. k < LOGS)
 kept_below es k None b e = tt
-kept_below es k (Some c) b e = elim (cases_lt k 48) [
+kept_below es k (Some c) b e = elim (cases_lt k LOGS) [
   | inl l ↦ l
   | inr l ↦ absurd (let n : Some c.now ≡ None = e ∙ b k l in cc)
 ]
@@ -111,7 +112,7 @@ kept_below es k (Some c) b e = elim (cases_lt k 48) [
 -- ---- of one attribute and site
 
 module _ (es : Kept) (ls : List (List Setter)) (t : Attr) (s x : ℕ) (view : all_logs es ≡ ls)
-    (same : x ≡ log_of t s) (below : AreBelow 48 es) where
+    (same : x ≡ log_of t s) (below : AreBelow LOGS es) where
   own : log_at es x ≡ setters ls t s
   own = log_seen es x below ∙ (ap (λ z. get_or z x []) view ∙ ap (λ z. get_or ls z []) same)
 
@@ -121,7 +122,7 @@ module _ (es : Kept) (ls : List (List Setter)) (t : Attr) (s x : ℕ) (view : al
   last_kept q f = subst (λ z. (i : ℕ) (d : Setter) → i < length z → (get_or z i d).seq < q)
       (sym own) f
 
-  pub pushed_all : (fs : Kept) (e : Setter) → x < 48 → PutsLog es x (log_at es x ++ e ∷ []) fs
+  pub pushed_all : (fs : Kept) (e : Setter) → x < LOGS → PutsLog es x (log_at es x ++ e ∷ []) fs
       → all_logs fs ≡ with_setter ls t s e
   pushed_all fs e l p =
       puts_all es fs (log_at es x ++ e ∷ []) x l p
@@ -129,7 +130,7 @@ module _ (es : Kept) (ls : List (List Setter)) (t : Attr) (s x : ℕ) (view : al
       ∙ (ap (λ z. set ls z (log_at es x ++ e ∷ [])) same
       ∙ ap (λ z. set ls (log_of t s) (z ++ e ∷ [])) own))
 
-  pub popped_all : (fs : Kept) (us : List Setter) (e : Setter) → x < 48
+  pub popped_all : (fs : Kept) (us : List Setter) (e : Setter) → x < LOGS
       → ((vs : List Setter) (d : Setter) → log_at es x ≡ vs ++ d ∷ [] → PutsLog es x vs fs)
       → setters ls t s ≡ us ++ e ∷ [] → all_logs fs ≡ with_log ls t s us
   popped_all fs us e l f w = puts_all es fs us x l (f us e (own ∙ w))

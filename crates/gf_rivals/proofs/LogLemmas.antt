@@ -37,9 +37,10 @@ use Rattle.gf_rivals.proofs.NumberLemmas.{contained_at}
 use Rattle.gf_rivals.proofs.NumberLemmas.{number_within}
 use Rattle.gf_rivals.proofs.SetterIndexLemmas.{log_number}
 use Rattle.gf_rivals.proofs.SetterLemmas.{setters_push, at_index}
+use Rattle.gf_rivals.specs.declared.logs.TheConstants.{LOGS}
 
 -- a setter that was put behind the others and taken away again leaves the logs as they were
-pub taken_back : (ls now new : List (List Setter)) (t : Attr) (s : ℕ) (e : Setter) → length ls ≡ 48
+pub taken_back : (ls now new : List (List Setter)) (t : Attr) (s : ℕ) (e : Setter) → length ls ≡ LOGS
     → s < 8 → now ≡ with_setter ls t s e →
     ((us : List Setter) (d : Setter) → setters now t s ≡ us ++ d ∷ [] → new ≡ with_log now t s us)
     → new ≡ ls
@@ -67,14 +68,14 @@ as_many (suc n) = let r = as_many n in omega arith
 pub empty_logs : (o : ObjectId) → AreLogsOf [] o no_logs
 empty_logs o = record {
   each = λ t s p e l i. absurd (let n : slice_get [] p ≡ Some e = ap (λ z. slice_get z p)
-      (sym (empty (log_of t s) 48)) ∙ i in cc);
+      (sym (empty (log_of t s) LOGS)) ∙ i in cc);
   all = λ q b v m g c. absurd cc;
-  ordered = λ t s l. subst AreSetters (sym (empty (log_of t s) 48)) (record {
+  ordered = λ t s l. subst AreSetters (sym (empty (log_of t s) LOGS)) (record {
     rise = λ i j d k m. absurd (omega (arith, m));
     above = λ i d k. absurd (omega (arith, k));
     short = omega arith;
   });
-  count = as_many 48;
+  count = as_many LOGS;
 }
 
 module _ (h : List Op) (o : ObjectId) (ls : List (List Setter)) (logs : AreLogsOf h o ls)

@@ -23,6 +23,7 @@ use Rattle.gf_rivals.specs.Rivals.{IsNumber, AreLogsOf}
 use Rattle.gf_rivals.proofs.SetterIndexLemmas.{log_number, number_of-setter_of, one_log_number}
 use Rattle.gf_rivals.proofs.SetterIndexLemmas.{setter_of-log_number}
 use Rattle.gf_rivals.proofs.SetterLemmas.{from_index}
+use Rattle.gf_rivals.specs.declared.logs.TheConstants.{LOGS}
 
 pub some_one : {X : Type 0} (a b : X) → Some a ≡ Some b → a ≡ b
 some_one a b e = ap (λ o. unwrap_or o a) e
@@ -59,7 +60,7 @@ setter_found (Some e) q f = (e, refl, some_one e.position q f)
 -- ---- numbers
 
 -- the number of the setter at the index p in the log with the index k
-pub number_in : (ls : List (List Setter)) (k p : ℕ) (e : Setter) → k < 48
+pub number_in : (ls : List (List Setter)) (k p : ℕ) (e : Setter) → k < LOGS
     → slice_get (get_or ls k []) p ≡ Some e → IsNumber ls (log_number k p) e.position
 number_in ls k p e l at =
     let first : attribute_index (attribute_at (k / 8)) ≡ k / 8 = attribute_index_at (k / 8)
@@ -185,7 +186,7 @@ module _ (h : List Op) (o : ObjectId) (ls : List (List Setter)) (logs : AreLogsO
       let p = (setter_of n).index in
       let w = setter_found (slice_get (get_or ls k []) p) q f in
       let all = logs.count in
-      let inside : k < 48 = elim (cases_lt k 48) [
+      let inside : k < LOGS = elim (cases_lt k LOGS) [
         | inl l ↦ l
         | inr l ↦ absurd (let e : slice_get [] p ≡ Some w.0 = ap (λ z. slice_get z p)
             (sym (past_end ls k (omega (arith, l, all)))) ∙ w.1 in cc)

@@ -31,9 +31,9 @@ HasScripts-line n bytes m line left old new has takes = record {
       ∙ (ap (λ r. r ++ script_denoted line ∷ []) has.lines
       ∙ (ap (λ r. map denotes_command has.commands ++ r ∷ []) takes.denotes
       ∙ sym (map-append denotes_command has.commands (takes.command ∷ []))));
-  fit = fit_more n has.commands old has.fit has.by_site takes.command takes.place takes.site
+  fit = fit_more n has.commands old has.fit has.by_site takes.command takes.index takes.site
       takes.room;
-  by_site = scripts_more n has.commands old has.fit has.by_site takes.command takes.place takes.site
+  by_site = scripts_more n has.commands old has.fit has.by_site takes.command takes.index takes.site
       takes.room new takes.gains;
 }
 
@@ -58,7 +58,7 @@ module _ (n : ℕ) (bytes : List ℕ) (m : ℕ) (line : List ℕ) (left : List (
       (record {
         command = f.command;
         denotes = f.denotes;
-        beyond = full_beyond n has.commands scripts has.by_site f.command f.place f.site f.full;
+        beyond = full_beyond n has.commands scripts has.by_site f.command f.index f.site f.full;
       })
   at_fault cause.Clash f = f
 

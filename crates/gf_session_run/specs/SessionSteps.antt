@@ -36,14 +36,14 @@ of_line m line.Field = studio.Line m cause.Field
 of_line m line.Range = studio.Line m cause.Range
 of_line m line.OutOfMemory = studio.OutOfMemory
 
--- the script at place k has one more command, and the others are as they were
+-- the script at index k has one more command, and the others are as they were
 pub record GainsCommand (old : List Script) (k : ℕ) (c : Command) (new : List Script) : Type 0 where
   pub long : length new ≡ length old
   pub there : (s t : Script) → slice_get old k ≡ Some s → slice_get new k ≡ Some t
       → t.0.items ≡ s.0.items ++ c ∷ []
   pub others : (j : ℕ) → j ≢ k → slice_get new j ≡ slice_get old j
 
--- there is no script at place k, or it has 1,000 commands
+-- there is no script at index k, or it has 1,000 commands
 pub data HasNoRoomAt (scripts : List Script) (k : ℕ) : Type 0 where
   past : length scripts ≤ k → HasNoRoomAt scripts k
   long : (s : Script) → slice_get scripts k ≡ Some s → 1000 ≤ length s.0.items
@@ -53,18 +53,18 @@ pub data HasNoRoomAt (scripts : List Script) (k : ℕ) : Type 0 where
 pub record TakesCommand (bytes : List ℕ) (old new : List Script) : Type 0 where
   pub command : ScriptLine
   pub denotes : script_denoted bytes ≡ Ok command
-  pub place : ℕ
-  pub site : command.site ≡ place + 1
-  pub room : ¬ (HasNoRoomAt old place)
-  pub gains : GainsCommand old place command.command new
+  pub index : ℕ
+  pub site : command.site ≡ index + 1
+  pub room : ¬ (HasNoRoomAt old index)
+  pub gains : GainsCommand old index command.command new
 
 -- the line denotes a command for which there is no room
 pub record HasNoRoom (bytes : List ℕ) (scripts : List Script) : Type 0 where
   pub command : ScriptLine
   pub denotes : script_denoted bytes ≡ Ok command
-  pub place : ℕ
-  pub site : command.site ≡ place + 1
-  pub full : HasNoRoomAt scripts place
+  pub index : ℕ
+  pub site : command.site ≡ index + 1
+  pub full : HasNoRoomAt scripts index
 
 -- what is wrong with the line
 abbrev pub IsCommandFault : List ℕ → List Script → LineCause → Type 0

@@ -61,32 +61,32 @@ fn take_line(
         Ok(read) => read,
         Err(fault) => return Err(line_refusal(number, fault)),
     };
-    let place = usize::from(site) - 1;
-    if is_full(scripts, place) {
+    let index = usize::from(site) - 1;
+    if is_full(scripts, index) {
         return Err(StudioError::Line(number, LineCause::Range));
     }
-    match give(scripts, place, command) {
+    match give(scripts, index, command) {
         Ok(()) => Ok(()),
         Err(OutOfMemory) => Err(StudioError::OutOfMemory),
     }
 }
 
-/// Whether no command more fits at this place.
-fn is_full(scripts: &[Script], place: usize) -> bool
-    ensures { IsTrue result ↔ HasNoRoomAt scripts.now place }
+/// Whether no command more fits into the script with this index.
+fn is_full(scripts: &[Script], index: usize) -> bool
+    ensures { IsTrue result ↔ HasNoRoomAt scripts.now index }
 {
-    match scripts.get(place) {
+    match scripts.get(index) {
         Some(script) => MOST_COMMANDS <= script.0.len(),
         None => true,
     }
 }
 
-/// Puts a command behind those of the script at this place.
-fn give(scripts: &mut [Script], place: usize, command: Command) -> Result<(), OutOfMemory>
-    requires { place < length scripts.old }
-    ensures { OnOk result (GainsCommand scripts.old place command scripts.new) }
+/// Puts a command behind those of the script with this index.
+fn give(scripts: &mut [Script], index: usize, command: Command) -> Result<(), OutOfMemory>
+    requires { index < length scripts.old }
+    ensures { OnOk result (GainsCommand scripts.old index command scripts.new) }
 {
-    scripts[place].0.push(command)?;
+    scripts[index].0.push(command)?;
     Ok(())
 }
 

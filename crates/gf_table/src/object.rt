@@ -13,6 +13,7 @@ ghost use Rattle.gf_rivals.specs.Rivals.{AreRivals, AreLogsOf};
 ghost use Rattle.gf_rivals.specs.Indexes.{IsIndex, PutsNumber};
 ghost use Rattle.gf_rivals.specs.Fingerprints.{fingerprint_of};
 ghost use Rattle.gf_ops.specs.declared.change.Change.TheVariants.{Set};
+ghost use Rattle.gf_rivals.specs.declared.logs.TheConstants.{LOGS};
 ghost use Rattle.gf_table.specs.ByPosition.{sets_at, component_at, components_at};
 ghost use Rattle.gf_table.specs.Multiplying.{counted};
 ghost use Rattle.gf_table.specs.ObjectState.{made, maker_number, position_in, with_grown};
@@ -236,7 +237,7 @@ impl ObjectTable {
         requires last { (i : _) (d : _)
             → i < length (setters self.old.logs attribute (id.site - 1))
             → (slice_index_or (setters self.old.logs attribute (id.site - 1)) i d).seq < id.seq }
-        requires logs { length self.old.logs ≡ 48 }
+        requires logs { length self.old.logs ≡ LOGS }
         requires number { number + 1 < 2 ^ 64 }
         ensures ok { OnOk result (self.new
             ≡ with_grown attribute id position number rivals.now self.old) }

@@ -49,7 +49,7 @@ abbrev pub are_apart : Bounds → Bounds → Bool
 are_apart a b = lie_beside a.low.x a.high.x b.low.x b.high.x
     || lie_beside a.low.y a.high.y b.low.y b.high.y
 
--- the figure at place k is the first of these that is like the outline of this colour
+-- the figure at position k is the first of these that is like the outline of this colour
 pub record IsLikeAt (table : Table) (o : Outline) (c : Rgb) (figures : List (Figure Outline))
     (k : ℕ) : Type 0 where
   pub figure : Figure Outline

@@ -46,8 +46,8 @@ pub(crate) fn look_alike(
     if figures.len() != items.len() {
         return Ok(false);
     }
-    for place in 0..items.len() {
-        if !is_like(alloc, &items[place], drawing, figures[place])? {
+    for position in 0..items.len() {
+        if !is_like(alloc, &items[position], drawing, figures[position])? {
             return Ok(false);
         }
     }
@@ -82,17 +82,17 @@ fn take_out(
         (map (λ f. f.now) left.old.items)) }
 {
     let outline = item.shape.outline(alloc)?;
-    let Some(place) = first_like(alloc, &outline, item.colour, drawing, left)? else {
+    let Some(position) = first_like(alloc, &outline, item.colour, drawing, left)? else {
         return Ok(false);
     };
-    if !can_pass(drawing, left[place], &left[..place]) {
+    if !can_pass(drawing, left[position], &left[..position]) {
         return Ok(false);
     }
-    let _ = left.remove(place);
+    let _ = left.remove(position);
     Ok(true)
 }
 
-/// The place of the first figure that a version of this outline and colour looks like.
+/// The position of the first figure that a version of this outline and colour looks like.
 fn first_like(
     alloc: Global,
     outline: &Outline,
@@ -100,16 +100,16 @@ fn first_like(
     drawing: &Drawing<Outline>,
     figures: &[&Figure<Outline>],
 ) -> Result<Option<usize>, OutOfMemory>
-    ensures some { IfOk result (λ place. IfSome place
+    ensures some { IfOk result (λ position. IfSome position
         (IsLikeAt drawing.now.table outline.now colour (map (λ f. f.now) figures.now))) }
-    ensures within { IfOk result (λ place. IfSome place (λ k. k < length figures.now)) }
-    ensures none { IfOk result (λ place. IfNone place
+    ensures within { IfOk result (λ position. IfSome position (λ k. k < length figures.now)) }
+    ensures none { IfOk result (λ position. IfNone position
         (All (λ f. ¬ (IsTraced drawing.now.table outline.now colour f))
         (map (λ f. f.now) figures.now))) }
 {
-    for place in 0..figures.len() {
-        if looks(alloc, outline, colour, drawing, figures[place])? {
-            return Ok(Some(place));
+    for position in 0..figures.len() {
+        if looks(alloc, outline, colour, drawing, figures[position])? {
+            return Ok(Some(position));
         }
     }
     Ok(None)

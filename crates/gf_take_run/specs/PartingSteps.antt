@@ -3,6 +3,6 @@ use Rattle.std.specs.Prelude.{ℕ, ◌≤◌, List}
 use Rattle.gf_take_run.specs.Parting.{BeginsFig}
 
 -- n is the first place at which a FIG text begins
-pub record IsFigPlace (text : List ℕ) (n : ℕ) : Type 0 where
+pub record IsFigStart (text : List ℕ) (n : ℕ) : Type 0 where
   pub begins : BeginsFig text n
   pub first : (m : ℕ) → BeginsFig text m → n ≤ m

@@ -2,7 +2,7 @@
 
 ghost use Rattle.std.specs.Prelude.{◌≡◌, ℕ, IfNone, IfOk, IfSome};
 ghost use Rattle.gf_take_run.specs.Parting.{BeginsFig, IsParted};
-ghost use Rattle.gf_take_run.specs.PartingSteps.{IsFigPlace};
+ghost use Rattle.gf_take_run.specs.PartingSteps.{IsFigStart};
 
 use gf_shape::OutOfMemory;
 use memchr::memchr;
@@ -32,9 +32,9 @@ pub(crate) fn part(alloc: Global, mut text: Vec<u8>) -> Result<Option<Parts>, Ou
     Ok(Some(Parts { lines: text, fig }))
 }
 
-/// The first place of a text at which a line begins as a FIG text does.
+/// The first position of a text at which a line begins as a FIG text does.
 fn fig_start(text: &[u8]) -> Option<usize>
-    ensures place { IfSome result (IsFigPlace text.now) }
+    ensures start { IfSome result (IsFigStart text.now) }
     ensures none { IfNone result ((n : ℕ) → ¬ (BeginsFig text.now n)) }
 {
     let mut start = 0;

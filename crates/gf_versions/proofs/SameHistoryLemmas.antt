@@ -134,11 +134,12 @@ module _ {X : Type 0} (Above : X → X → Type 0) (one_way : (a b : X) → Abov
 
   in_tail : (x y : X) (xs ys : List X) → AllPairs Above (x ∷ xs) → x ≡ y → (a : X)
       → (Contains (x ∷ xs) a → Contains (y ∷ ys) a) → Contains xs a → Contains ys a
-  in_tail x y xs ys s e a f c = elim (Contains-cons_cases y ys a (f (Contains-cons_tail x xs a c))) [
-    | inl d ↦ let b = subst (Above x) (d ∙ sym e) (head_above Above x xs s a c) in
-        absurd (one_way x x b b)
-    | inr i ↦ i
-  ]
+  in_tail x y xs ys s e a f c =
+      elim (Contains-cons_cases y ys a (f (Contains-cons_tail x xs a c))) [
+        | inl d ↦ let b = subst (Above x) (d ∙ sym e) (head_above Above x xs s a c) in
+            absurd (one_way x x b b)
+        | inr i ↦ i
+      ]
 
   one_falling : (xs ys : List X) → AllPairs Above xs → AllPairs Above ys
       → ((a : X) → Contains xs a ↔ Contains ys a) → xs ≡ ys

@@ -7,5 +7,5 @@ pub returns-in-Some : goal.returns-in-Some
 returns-in-Some c =
     let xs = c.args.scripts.now in
     let l = c.in-Some.ensures.lookup in
-    full_told xs c.args.place _ c.in-Some.script.now
-    (slice_get_read xs (length xs) c.args.place c.in-Some.script.now refl l.3.0 l.1) c.len.ensures
+    full_told xs c.args.index _ c.in-Some.script.now
+    (slice_get_read xs (length xs) c.args.index c.in-Some.script.now refl l.3.0 l.1) c.len.ensures

@@ -11,8 +11,8 @@ returns-then-is_full-clause-err c =
       inr (record {
         command = l;
         denotes = command_read _ _ l c.in-Ok.ensures.denoted refl;
-        place = _;
-        site = placed l.site _ (is_command l.command) c.from-place.ensures c.in-Ok.ensures.in_range;
+        index = _;
+        site = placed l.site _ (is_command l.command) c.from-index.ensures c.in-Ok.ensures.in_range;
         full = c.is_full.ensures.0 c.if-is_full.true;
       }),
     )
@@ -23,8 +23,8 @@ returns-in-Ok-give-clause-ok c =
     record {
       command = l;
       denotes = command_read _ _ l c.in-Ok.ensures.denoted refl;
-      place = _;
-      site = placed l.site _ (is_command l.command) c.from-place.ensures c.in-Ok.ensures.in_range;
+      index = _;
+      site = placed l.site _ (is_command l.command) c.from-index.ensures c.in-Ok.ensures.in_range;
       room = λ full. let t = c.is_full.ensures.1 full in let f = c.if-is_full.false in absurd cc;
       gains = c.in-Ok-give.ensures;
     }

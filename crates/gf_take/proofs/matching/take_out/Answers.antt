@@ -12,7 +12,7 @@ pub returns-in_default-clause-none : goal.returns-in_default-clause-none
 returns-in_default-clause-none c = λ e.
     let table = c.args.drawing.now.table in
     let item = c.args.item.now in
-    let unlike = rw c.in_default.is at c.in_ok-place.ensures.none in
+    let unlike = rw c.in_default.is at c.in_ok-position.ensures.none in
     none_like table (any_outline item.shape) item.colour
     (map (λ f. f.now) c.args.left.now.items)
     (subst (λ o. All (λ f. ¬ (IsTraced table o item.colour f))
@@ -25,11 +25,11 @@ returns-then-not-can_pass-clause-none c = λ e.
     let table = c.args.drawing.now.table in
     let item = c.args.item.now in
     let refs = c.args.left.now.items in
-    let k = c.in-Some.place in
+    let k = c.in-Some.position in
     let r = c.index.result.now in
     let like = subst (λ l. IsLikeAt table c.in_ok-outline.outline item.colour
     (map (λ f. f.now) l) k) c.deref.ensures.value
-    (rw c.in-Some.is at c.in_ok-place.ensures.some) in
+    (rw c.in-Some.is at c.in_ok-position.ensures.some) in
     let within : k < length refs = search (rules, arith) in
     let is : r ≡ get_or refs k r = search rules in
     takes_none (λ f. f.now) table item c.in_ok-outline.outline c.in_ok-outline.ensures.outline refs
@@ -45,11 +45,11 @@ returns-clause-some c = λ e.
     let table = c.args.drawing.now.table in
     let item = c.args.item.now in
     let refs = c.args.left.now.items in
-    let k = c.in-Some.place in
+    let k = c.in-Some.position in
     let r = c.index.result.now in
     let like = subst (λ l. IsLikeAt table c.in_ok-outline.outline item.colour
     (map (λ f. f.now) l) k) c.deref.ensures.value
-    (rw c.in-Some.is at c.in_ok-place.ensures.some) in
+    (rw c.in-Some.is at c.in_ok-position.ensures.some) in
     let within : k < length refs = search (rules, arith) in
     let is : r ≡ get_or refs k r = search rules in
     takes_like (λ f. f.now) table item c.in_ok-outline.outline c.in_ok-outline.ensures.outline refs

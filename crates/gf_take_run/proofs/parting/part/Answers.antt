@@ -9,7 +9,7 @@ pub returns-clause-parted : goal.returns-clause-parted
 returns-clause-parted c =
     let text = c.args.text.items in
     let start = c.in-Some.start in
-    let place = rw c.deref.ensures.value at c.in-Some.ensures.place in
+    let place = rw c.deref.ensures.value at c.in-Some.ensures.start in
     record {
       place = start;
       begins = place.begins;

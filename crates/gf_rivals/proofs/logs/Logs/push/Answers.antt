@@ -5,6 +5,7 @@ use Rattle.gf_rivals.specs.KeptLogs.{all_logs}
 use Rattle.gf_rivals.proofs.CountedLemmas.{AreBelow-pushed, AreCounted-pushed}
 use Rattle.gf_rivals.proofs.KeptLemmas.{keeps_all, last_kept, pushed_all}
 use Rattle.gf_rivals.proofs.logs.Logs.push.Goals as goal
+use Rattle.gf_rivals.specs.declared.logs.TheConstants.{LOGS}
 
 pub push_to-requires-clause-last : goal.push_to-requires-clause-last
 push_to-requires-clause-last c = last_kept c.self.inside.logs.entries c.args.self.now
@@ -33,7 +34,7 @@ invariant_of-self c =
     let below = c.self.invariant.0 in
     let own = subst (λ z. c.args.id.seq ≤ entry c.counting-self-inside.result z)
     (omega (arith, site.0)) c.counting-self-inside.ensures.own in (
-      AreBelow-pushed c.push_to.result es fs x 48 _ bound below c.push_to.ensures.ok
+      AreBelow-pushed c.push_to.result es fs x LOGS _ bound below c.push_to.ensures.ok
           c.push_to.ensures.err,
       AreCounted-pushed c.push_to.result c.self.inside.latest c.counting-self-inside.result
           (all_logs es) (all_logs fs) c.args.attribute s

@@ -2,6 +2,7 @@ use Rattle.std.proofs.Common.{◌≡◌, ◌-◌, length, subst, sym, arith, ◌
 use Rattle.gf_rivals.proofs.LogLemmas.{taken_back}
 use Rattle.gf_table.specs.ObjectState.{ObjectState}
 use Rattle.gf_table.proofs.object.ObjectTable.grow.Goals as goal
+use Rattle.gf_rivals.specs.declared.logs.TheConstants.{LOGS}
 
 pub returns-in-Err-clause-err : goal.returns-in-Err-clause-err
 returns-in-Err-clause-err c =
@@ -12,7 +13,7 @@ returns-in-Err-clause-err c =
       components = c.self.inside.components;
       maker = c.self.inside.maker;
     } in
-    let all : length t.logs ≡ 48 = subst (λ (z : ObjectState). length z.logs ≡ 48)
+    let all : length t.logs ≡ LOGS = subst (λ (z : ObjectState). length z.logs ≡ LOGS)
     (sym c.self.view_is) c.requires.logs in
     let site = c.requires.site in
     let logs : c.pop.new.self ≡ t.logs =
