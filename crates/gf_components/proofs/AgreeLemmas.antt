@@ -1,7 +1,7 @@
 -- Components under another test that agrees on their numbers.
 use Rattle.std.proofs.Common.{◌≡◌, ℕ, Bool, List, inl, inr, sym, ◌∙◌}
 use Rattle.std.specs.Prelude.{Contains, Option, Some, None}
-use Rattle.gf_maximal.specs.Tables.{IsLargest, IsTable}
+use Rattle.gf_maximal.specs.LargestSets.{IsLargest, AreLargestSets}
 use Rattle.gf_maximal.proofs.PairLemmas.{Pairs-from}
 use Rattle.gf_components.specs.Components.{ComponentState, ComponentsState, alone, whole}
 use Rattle.gf_components.specs.Separate.{Apart, AreSetsKept, AreComponents}
@@ -18,10 +18,10 @@ agree_largest c d us p same m = record {
   ];
 }
 
-pub table_agree : (c d : ℕ → ℕ → Bool) (us : List ℕ) (gs : List (List ℕ))
-    → ((a b : ℕ) → Contains us a → Contains us b → c a b ≡ d a b) → IsTable c us gs
-    → IsTable d us gs
-table_agree c d us gs same t = record {
+pub largest_agree : (c d : ℕ → ℕ → Bool) (us : List ℕ) (gs : List (List ℕ))
+    → ((a b : ℕ) → Contains us a → Contains us b → c a b ≡ d a b) → AreLargestSets c us gs
+    → AreLargestSets d us gs
+largest_agree c d us gs same t = record {
   each = λ g. (
     λ h. let m = (t.each g).0 h in (m.0, agree_largest c d (Contains us) (Contains g) same m.1),
     λ m. (t.each g).1 (
@@ -35,8 +35,9 @@ table_agree c d us gs same t = record {
 kept_agree : (c d : ℕ → ℕ → Bool) (us : List ℕ)
     → ((a b : ℕ) → Contains us a → Contains us b → c a b ≡ d a b) → (r : Option (List (List ℕ)))
     → AreSetsKept c us r → AreSetsKept d us r
-kept_agree c d us same (Some gs) k = (table_agree c d us gs same k.0, k.1)
-kept_agree c d us same None k = λ gs t. k gs (table_agree d c us gs (λ a b u v. sym (same a b u v))
+kept_agree c d us same (Some gs) k = (largest_agree c d us gs same k.0, k.1)
+kept_agree c d us same None k = λ gs t. k gs
+    (largest_agree d c us gs (λ a b u v. sym (same a b u v))
     t)
 
 -- THE SAME COMPONENTS, when the history becomes longer, or the test of its conflicts changes

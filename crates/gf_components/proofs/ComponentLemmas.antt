@@ -19,7 +19,7 @@ use Rattle.gf_base.proofs.ListLemmas.{Contains-cons_cases, Contains-cons_head, C
 use Rattle.gf_base.proofs.ListLemmas.{not_Contains-nil}
 use Rattle.gf_maximal.specs.Growing.{is_in, is_disjoint, without, common}
 use Rattle.gf_maximal.specs.Growing as sets
-use Rattle.gf_maximal.specs.Tables.{IsRising}
+use Rattle.gf_maximal.specs.LargestSets.{IsRising}
 use Rattle.gf_maximal.specs.Pairs.{Pairs}
 use Rattle.gf_maximal.proofs.InsertLemmas.{inserted, holds}
 use Rattle.gf_maximal.proofs.LargestLemmas.{IsConflict}
@@ -35,7 +35,7 @@ use Rattle.gf_components.specs.Components.{ComponentState, ComponentsState, both
 use Rattle.gf_components.specs.Components.{alone, whole, touches, touched, grown, stays, with_free}
 use Rattle.gf_components.specs.Components.{connected, after}
 use Rattle.gf_components.specs.Separate.{Apart, IsComponent, AreComponents, IsNewWith}
-use Rattle.gf_components.proofs.ProductLemmas.{table_alone}
+use Rattle.gf_components.proofs.ProductLemmas.{largest_alone}
 use Rattle.gf_components.proofs.CountLemmas.{kept_merged, kept_grown}
 
 -- one more component joins if it passes
@@ -147,11 +147,11 @@ module _ (c : ℕ → ℕ → Bool) where
 
     pub component_alone : (us : List ℕ) → IsRising us
         → ((a b : ℕ) → Contains us a → Contains us b → c a b ≡ false) → IsComponent c (alone us)
-    component_alone us r f = record { rises = r; sets = (table_alone c us r f, omega arith) }
+    component_alone us r f = record { rises = r; sets = (largest_alone c us r f, omega arith) }
 
     -- THE VERSIONS: what is free with one set of each component
-    pub table_whole : (t : ComponentsState) → AreComponents c t → IsComponent c (whole t)
-    table_whole t m = component_of_fold (alone t.free) t.components
+    pub component_whole : (t : ComponentsState) → AreComponents c t → IsComponent c (whole t)
+    component_whole t m = component_of_fold (alone t.free) t.components
         (component_alone t.free m.rises m.calm) m.components m.loose m.apart
 
     pub first_components : AreComponents c (record { free = []; components = [] })

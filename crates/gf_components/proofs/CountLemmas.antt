@@ -16,13 +16,13 @@ use Rattle.gf_base.proofs.FilterLemmas.{Contains-filter}
 use Rattle.gf_base.proofs.RisingLemmas.{rising_front, rising_below, never_both}
 use Rattle.gf_maximal.specs.Growing.{intersects, is_disjoint, without, joined, maximal, united}
 use Rattle.gf_maximal.specs.Growing.{next}
-use Rattle.gf_maximal.specs.Tables.{IsRising, IsTable}
-use Rattle.gf_maximal.proofs.GrowingLemmas.{Comes, table_first, table_next}
+use Rattle.gf_maximal.specs.LargestSets.{IsRising, AreLargestSets}
+use Rattle.gf_maximal.proofs.GrowingLemmas.{Comes, largest_first, largest_next}
 use Rattle.gf_maximal.proofs.LargestLemmas.{IsConflict}
 use Rattle.gf_components.specs.Separate.{Apart, AreSetsKept}
 use Rattle.gf_components.specs.Components.{most_sets, kept, products, kept_products, times}
 use Rattle.gf_components.specs.Components.{grown_sets}
-use Rattle.gf_components.proofs.ProductLemmas.{table_product}
+use Rattle.gf_components.proofs.ProductLemmas.{largest_product}
 
 -- ---- lists of the same different elements are equally long
 
@@ -109,9 +109,9 @@ module _ (c : ℕ → ℕ → Bool) (s : IsConflict c) where
       let f = two_lists (intersects d) gs in
       omega (arith, a, b, e, f)
 
-  pub record HasTable (us : List ℕ) : Type 0 where
+  pub record HasLargestSets (us : List ℕ) : Type 0 where
     pub sets : List (List ℕ)
-    pub table : IsTable c us sets
+    pub table : AreLargestSets c us sets
     pub some : 1 ≤ length sets
 
   last_comes : (us : List ℕ) (x : ℕ) → IsRising (us ++ x ∷ [])
@@ -130,39 +130,43 @@ module _ (c : ℕ → ℕ → Bool) (s : IsConflict c) where
     );
   }
 
-  more_tables : (us xs : List ℕ) → HasTable us → IsRising (us ++ xs) → HasTable (us ++ xs)
-  more_tables us [] t r = rw append-nil t
-  more_tables us (x ∷ xs) t r =
+  more_largest : (us xs : List ℕ) → HasLargestSets us → IsRising (us ++ xs)
+      → HasLargestSets (us ++ xs)
+  more_largest us [] t r = rw append-nil t
+  more_largest us (x ∷ xs) t r =
       let all : (us ++ x ∷ []) ++ xs ≡ us ++ x ∷ xs = append_assoc us (x ∷ []) xs in
       let q : IsRising ((us ++ x ∷ []) ++ xs) = rw all r in
-      let one : HasTable (us ++ x ∷ []) = record {
+      let one : HasLargestSets (us ++ x ∷ []) = record {
         sets = next (filter (c x) us) x t.sets;
-        table = table_next c s us x (filter (c x) us) (us ++ x ∷ [])
+        table = largest_next c s us x (filter (c x) us) (us ++ x ∷ [])
             (last_comes us x (rising_front nat_cmp nat_cmp_total (us ++ x ∷ []) xs q)) t.sets
             t.table;
         some = let k = t.some in let l = no_fewer (filter (c x) us) x t.sets in omega (arith, k, l);
       } in
-      subst HasTable all (more_tables (us ++ x ∷ []) xs one q)
+      subst HasLargestSets all (more_largest (us ++ x ∷ []) xs one q)
 
   -- rising numbers have a table
-  pub a_table : (us : List ℕ) → IsRising us → HasTable us
-  a_table us r = more_tables [] us
-      (record { sets = [] ∷ []; table = table_first c; some = omega arith }) r
+  pub some_largest : (us : List ℕ) → IsRising us → HasLargestSets us
+  some_largest us r = more_largest [] us
+      (record { sets = [] ∷ []; table = largest_first c; some = omega arith }) r
 
   -- and all of their tables are equally long
-  pub tables_long : (us : List ℕ) (gs ks : List (List ℕ)) → IsTable c us gs → IsTable c us ks
+  pub as_many_largest : (us : List ℕ) (gs ks : List (List ℕ)) → AreLargestSets c us gs
+      → AreLargestSets c us ks
       → length gs ≡ length ks
-  tables_long us gs ks t v = equally_long gs ks t.once v.once
+  as_many_largest us gs ks t v = equally_long gs ks t.once v.once
       (λ g. (λ i. (v.each g).1 ((t.each g).0 i), λ i. (t.each g).1 ((v.each g).0 i)))
 
   -- ---- what is kept
 
-  pub kept_is : (us : List ℕ) (gs : List (List ℕ)) → IsTable c us gs → AreSetsKept c us (kept gs)
+  pub kept_is : (us : List ℕ) (gs : List (List ℕ)) → AreLargestSets c us gs
+      → AreSetsKept c us (kept gs)
   kept_is us gs t = elim (cases_Bool (nat_le (length gs) most_sets)) [
     | inl y ↦ rw (cond-true (nat_le (length gs) most_sets) (Some gs) None y)
         (t, leb-true (length gs) most_sets y)
     | inr n ↦ rw (cond-false (nat_le (length gs) most_sets) (Some gs) None n)
-        (λ ks v. let e = tables_long us gs ks t v in let l = leb-false (length gs) most_sets n in
+        (λ ks v. let e = as_many_largest us gs ks t v in let l = leb-false (length gs) most_sets
+        n in
         omega (arith, e, l))
   ]
 
@@ -170,10 +174,11 @@ module _ (c : ℕ → ℕ → Bool) (s : IsConflict c) where
   more_times m n k l o = let e : n * 1 ≤ n * k = mul-le-mul_left n o in let d = mul-one n in
       omega (arith, e, d, l)
 
-  kept_products_is : (us vs : List ℕ) (gs ks : List (List ℕ)) → Apart c us vs → IsTable c us gs
-      → IsTable c vs ks → AreSetsKept c (united us vs) (kept_products gs ks)
+  kept_products_is : (us vs : List ℕ) (gs ks : List (List ℕ)) → Apart c us vs
+      → AreLargestSets c us gs
+      → AreLargestSets c vs ks → AreSetsKept c (united us vs) (kept_products gs ks)
   kept_products_is us vs gs ks w t v =
-      let table = table_product c s us vs w gs ks t v in
+      let table = largest_product c s us vs w gs ks t v in
       let len = length-products gs ks in
       elim (cases_Bool (nat_le (length gs * length ks) most_sets)) [
         | inl y ↦ rw (cond-true (nat_le (length gs * length ks) most_sets) (Some (products gs ks))
@@ -183,7 +188,7 @@ module _ (c : ℕ → ℕ → Bool) (s : IsConflict c) where
             )
         | inr n ↦ rw (cond-false (nat_le (length gs * length ks) most_sets) (Some (products gs ks))
             None n)
-            (λ hs o. let e = tables_long (united us vs) (products gs ks) hs table o in
+            (λ hs o. let e = as_many_largest (united us vs) (products gs ks) hs table o in
             let l = leb-false (length gs * length ks) most_sets n in omega (arith, e, len, l))
       ]
 
@@ -191,9 +196,9 @@ module _ (c : ℕ → ℕ → Bool) (s : IsConflict c) where
   many_first : (us vs : List ℕ) → IsRising us → IsRising vs → Apart c us vs → AreSetsKept c us None
       → AreSetsKept c (united us vs) None
   many_first us vs r q w x gs t =
-      let a = a_table us r in let b = a_table vs q in
-      let e = tables_long (united us vs) (products a.sets b.sets) gs
-      (table_product c s us vs w a.sets b.sets a.table b.table) t in
+      let a = some_largest us r in let b = some_largest vs q in
+      let e = as_many_largest (united us vs) (products a.sets b.sets) gs
+      (largest_product c s us vs w a.sets b.sets a.table b.table) t in
       let len = length-products a.sets b.sets in
       let k = more_times most_sets (length a.sets) (length b.sets) (x a.sets a.table) b.some in
       omega (arith, e, len, k)
@@ -201,9 +206,9 @@ module _ (c : ℕ → ℕ → Bool) (s : IsConflict c) where
   many_second : (us vs : List ℕ) → IsRising us → IsRising vs → Apart c us vs → AreSetsKept c vs None
       → AreSetsKept c (united us vs) None
   many_second us vs r q w x gs t =
-      let a = a_table us r in let b = a_table vs q in
-      let e = tables_long (united us vs) (products a.sets b.sets) gs
-      (table_product c s us vs w a.sets b.sets a.table b.table) t in
+      let a = some_largest us r in let b = some_largest vs q in
+      let e = as_many_largest (united us vs) (products a.sets b.sets) gs
+      (largest_product c s us vs w a.sets b.sets a.table b.table) t in
       let len = length-products a.sets b.sets in
       let k = more_times most_sets (length b.sets) (length a.sets) (x b.sets b.table) a.some in
       let f = mul_comm (length a.sets) (length b.sets) in
@@ -220,10 +225,11 @@ module _ (c : ℕ → ℕ → Bool) (s : IsConflict c) where
   pub kept_grown : (us : List ℕ) (x : ℕ) (d all : List ℕ) → Comes c us x d all
       → (p : Option (List (List ℕ))) → AreSetsKept c us p → AreSetsKept c all (grown_sets d x p)
   kept_grown us x d all m (Some gs) y = kept_is all (next d x gs)
-      (table_next c s us x d all m gs y.0)
+      (largest_next c s us x d all m gs y.0)
   kept_grown us x d all m None y = λ gs t.
-      let a = a_table us m.rising in
-      let e = tables_long all (next d x a.sets) gs (table_next c s us x d all m a.sets a.table) t in
+      let a = some_largest us m.rising in
+      let e = as_many_largest all (next d x a.sets) gs
+      (largest_next c s us x d all m a.sets a.table) t in
       let l = y a.sets a.table in
       let k = no_fewer d x a.sets in
       omega (arith, e, l, k)

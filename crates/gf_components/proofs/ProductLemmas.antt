@@ -14,7 +14,7 @@ use Rattle.gf_components.specs.Components.{products}
 use Rattle.gf_maximal.specs.Growing.{is_in, united}
 use Rattle.gf_maximal.proofs.MaximalLemmas.{in_list, from_list}
 use Rattle.gf_maximal.proofs.UnitedLemmas.{Contains-united, united_rises}
-use Rattle.gf_maximal.specs.Tables.{IsLargest, IsRising, IsTable}
+use Rattle.gf_maximal.specs.LargestSets.{IsLargest, IsRising, AreLargestSets}
 use Rattle.gf_components.specs.Separate.{Apart}
 use Rattle.gf_maximal.proofs.LargestLemmas.{IsConflict, largest_alike}
 use Rattle.gf_base.proofs.FilterLemmas.{Contains-filter}
@@ -164,7 +164,8 @@ module _ (c : ℕ → ℕ → Bool) (s : IsConflict c) (us vs : List ℕ) (apart
       (first_same g v.0 w.0 w.1 here (y v.0 v.1) (x w.0 (Contains-cons_tail g gs w.0 w.2))
       (y w.1 w.3) (sym v.2 ∙ (e ∙ w.4))))
 
-  module _ (gs ks : List (List ℕ)) (first : IsTable c us gs) (second : IsTable c vs ks) where
+  module _ (gs ks : List (List ℕ)) (first : AreLargestSets c us gs)
+      (second : AreLargestSets c vs ks) where
     none : (a b : ℕ) → Contains us a → Contains vs b → c a b ≡ false
     none a b u v = (apart a b u v).1
 
@@ -231,8 +232,8 @@ module _ (c : ℕ → ℕ → Bool) (s : IsConflict c) (us vs : List ℕ) (apart
         ((second.each k).1 (rk, mk)))
 
     -- THE PRODUCT: the table of a disjoint union without a conflict across
-    pub table_product : IsTable c (united us vs) (products gs ks)
-    table_product = record {
+    pub largest_product : AreLargestSets c (united us vs) (products gs ks)
+    largest_product = record {
       each = λ q. (sound q, λ m. complete q m.0 m.1);
       once = products_once gs ks
           (λ g i. let m = (first.each g).0 i in (m.0, m.1.within))
@@ -241,9 +242,9 @@ module _ (c : ℕ → ℕ → Bool) (s : IsConflict c) (us vs : List ℕ) (apart
     }
 
 -- positions without a conflict have one largest group
-pub table_alone : (c : ℕ → ℕ → Bool) (us : List ℕ) → IsRising us
-    → ((a b : ℕ) → Contains us a → Contains us b → c a b ≡ false) → IsTable c us (us ∷ [])
-table_alone c us form calm = record {
+pub largest_alone : (c : ℕ → ℕ → Bool) (us : List ℕ) → IsRising us
+    → ((a b : ℕ) → Contains us a → Contains us b → c a b ≡ false) → AreLargestSets c us (us ∷ [])
+largest_alone c us form calm = record {
   each = λ g. (
     λ h. elim (Contains-cons_cases us [] g h) [
       | inl e ↦ subst (λ z. IsRising z × IsLargest c (Contains us) (Contains z)) (sym e) (
@@ -264,9 +265,9 @@ table_alone c us form calm = record {
 }
 
 -- a table is one of whatever list has the same positions
-pub table_alike : (c : ℕ → ℕ → Bool) (us vs : List ℕ) (gs : List (List ℕ))
-    → ((a : ℕ) → Contains us a ↔ Contains vs a) → IsTable c us gs → IsTable c vs gs
-table_alike c us vs gs same t = record {
+pub largest_alike : (c : ℕ → ℕ → Bool) (us vs : List ℕ) (gs : List (List ℕ))
+    → ((a : ℕ) → Contains us a ↔ Contains vs a) → AreLargestSets c us gs → AreLargestSets c vs gs
+largest_alike c us vs gs same t = record {
   each = λ g. (
     λ h. let m = (t.each g).0 h in (
       m.0,

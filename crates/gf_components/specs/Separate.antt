@@ -3,7 +3,7 @@ use Rattle.std.specs.Prelude.{◌≡◌, ◌≢◌, ◌↔◌, ℕ, ◌<◌, ◌
 use Rattle.std.specs.Prelude.{false, List, Contains}
 use Rattle.std.specs.Prelude.{length, Option, Some, None}
 use Rattle.gf_maximal.specs.Pairs.{Pairs}
-use Rattle.gf_maximal.specs.Tables.{IsRising, IsTable}
+use Rattle.gf_maximal.specs.LargestSets.{IsRising, AreLargestSets}
 use Rattle.gf_components.specs.Components.{ComponentState, ComponentsState, most_sets, whole}
 
 -- c is the test whether two numbers conflict
@@ -14,8 +14,8 @@ module _ (c : ℕ → ℕ → Bool) where
 
   -- what is kept of the numbers us: their largest sets, or that they are too many
   abbrev pub AreSetsKept : List ℕ → Option (List (List ℕ)) → Type 0
-  AreSetsKept us (Some gs) = IsTable c us gs × (length gs ≤ most_sets)
-  AreSetsKept us None = (gs : List (List ℕ)) → IsTable c us gs → most_sets < length gs
+  AreSetsKept us (Some gs) = AreLargestSets c us gs × (length gs ≤ most_sets)
+  AreSetsKept us None = (gs : List (List ℕ)) → AreLargestSets c us gs → most_sets < length gs
 
   -- a component keeps its sets
   pub record IsComponent (p : ComponentState) : Type 0 where

@@ -22,11 +22,11 @@ use Rattle.gf_base.proofs.ListLemmas.{Contains-map, not_Contains-nil}
 use Rattle.gf_groups.specs.declared.group.Group.{Group}
 use Rattle.gf_groups.specs.Versions.{IsMade, IsVersionGroup, AreAllVersions}
 use Rattle.gf_groups.specs.Growing.{conflict_at, groups_at}
-use Rattle.gf_maximal.specs.Tables.{IsTable}
+use Rattle.gf_maximal.specs.LargestSets.{AreLargestSets}
 use Rattle.gf_groups.specs.GroupedPositions.{is_on, positions_below, groups_on}
 use Rattle.gf_groups.specs.Parting.{object_cmp, HasPositionsBelow, HasAllPositions}
 use Rattle.gf_groups.specs.Parting.{groups_of_entries}
-use Rattle.gf_groups.proofs.TableLemmas.{conflict_at_test, table_groups}
+use Rattle.gf_groups.proofs.LargestGroupLemmas.{conflict_at_test, largest_groups}
 use Rattle.gf_groups.proofs.GroupLemmas.{groups_once, group_on, groups_exactly}
 use Rattle.gf_groups.proofs.OnPositionLemmas.{on_op, on_to, all_positions, contained_at}
 use Rattle.gf_groups.proofs.OnPositionLemmas.{position_of_op}
@@ -80,9 +80,9 @@ module _ (h : List Op) (valid : IsValid h) where
   abbrev parted : ObjectId × List ℕ → List Group
   parted e = groups_on h e.0 e.1
 
-  table : (o : ObjectId) → IsTable (conflict_at h) (positions o)
+  table : (o : ObjectId) → AreLargestSets (conflict_at h) (positions o)
       (groups_at (conflict_at h) (positions o))
-  table o = table_groups (conflict_at h) (conflict_at_test h) (positions o)
+  table o = largest_groups (conflict_at h) (conflict_at_test h) (positions o)
       (positions_below-rising h o (length h))
 
   made_at : (o : ObjectId) (i : ℕ) → Contains (positions o) i → IsMade h o

@@ -19,7 +19,7 @@ use Rattle.gf_groups.specs.declared.group.Group.{Group}
 use Rattle.gf_groups.specs.Versions.{IsMade, IsVersionGroup, AreVersions, group_cmp}
 use Rattle.gf_groups.specs.Growing.{conflict_at}
 use Rattle.gf_groups.specs.GroupedPositions.{is_on, rising_ids, group_at}
-use Rattle.gf_maximal.specs.Tables.{IsRising, IsTable}
+use Rattle.gf_maximal.specs.LargestSets.{IsRising, AreLargestSets}
 use Rattle.gf_groups.proofs.IdLemmas.{id_cmp_total, id_cmp_exact}
 use Rattle.gf_groups.proofs.IdPositionLemmas.{Contains-rising_ids, same_position}
 use Rattle.gf_groups.proofs.OnPositionLemmas.{on_op}
@@ -35,7 +35,7 @@ group_cmp_total = on_total (λ (g : Group). g.ops) (lists_total id_cmp_total)
 -- us are the positions of all operations of h on the object o
 module _ (h : List Op) (valid : IsValid h) (o : ObjectId) (us : List ℕ) (all : (i : ℕ)
     → Contains us i ↔ (is_on o (slice_get h i) ≡ true)) (form : IsRising us) (gs : List (List ℕ))
-    (table : IsTable (conflict_at h) us gs) where
+    (table : AreLargestSets (conflict_at h) us gs) where
   abbrev groups : List Group
   groups = map (group_at h o) gs
 

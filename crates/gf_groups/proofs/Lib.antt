@@ -8,6 +8,6 @@ pub mod PartingLemmas
 pub mod PositionLemmas
 pub mod SortedLemmas
 pub mod SublistLemmas
-pub mod TableLemmas
+pub mod LargestGroupLemmas
 pub mod VersionLemmas
 pub mod VersionListLemmas

@@ -15,7 +15,7 @@ use Rattle.gf_groups.specs.Versions.{IsMade}
 use Rattle.gf_groups.specs.VersionList.{id_eq, is_in}
 use Rattle.gf_groups.specs.Growing.{conflict_at}
 use Rattle.gf_groups.specs.GroupedPositions.{is_on, rising_ids}
-use Rattle.gf_maximal.specs.Tables.{IsLargest, IsRising}
+use Rattle.gf_maximal.specs.LargestSets.{IsLargest, IsRising}
 use Rattle.gf_groups.proofs.ConflictTestLemmas.{id_decided}
 use Rattle.gf_groups.proofs.IdLemmas.{id_cmp_total}
 use Rattle.gf_groups.proofs.IdPositionLemmas.{IsIdAt, Contains-rising_ids, rising_ids-rising}

@@ -5,7 +5,7 @@ ghost use Rattle.std.specs.List.Sorted.{IsPermutation, IsSorted};
 ghost use Rattle.gf_groups.specs.declared.faults.GroupFault.{GroupFault};
 ghost use Rattle.gf_groups.specs.Growing.{conflict_at};
 ghost use Rattle.gf_groups.specs.GroupedPositions.{positions_below};
-ghost use Rattle.gf_maximal.specs.Tables.{IsTable};
+ghost use Rattle.gf_maximal.specs.LargestSets.{AreLargestSets};
 ghost use Rattle.gf_groups.specs.Versions.{IsMade, AreVersions, AreAllVersions, group_cmp};
 
 use crate::growth::groups_at;
@@ -79,7 +79,7 @@ pub fn groups_from(
     sets: Vec<Numbers>,
 ) -> Result<Groups, OutOfMemory>
     requires made { IsMade history.now.ops object }
-    requires table { IsTable (conflict_at history.now.ops)
+    requires table { AreLargestSets (conflict_at history.now.ops)
         (positions_below history.now.ops object (length history.now.ops)) sets.items }
     ensures { IfOk result (λ groups. AreVersions history.now.ops object groups) }
 {

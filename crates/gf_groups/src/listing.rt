@@ -3,7 +3,7 @@
 ghost use Rattle.std.specs.Prelude.{◌≡◌, ◌++◌, All, length, map, IfOk, OnOk};
 ghost use Rattle.std.specs.List.Sorted.{IsStrictlySortedBy};
 ghost use Rattle.std.specs.Ordering.{nat_cmp};
-ghost use Rattle.gf_maximal.specs.Tables.{IsRising};
+ghost use Rattle.gf_maximal.specs.LargestSets.{IsRising};
 ghost use Rattle.gf_groups.specs.GroupedPositions.{positions_below, id_at, ids_at, rising_ids};
 ghost use Rattle.gf_groups.specs.GroupedPositions.{group_at};
 

@@ -8,7 +8,7 @@ use Rattle.std.proofs.lemmas.List.Elements.{Contains-push_cases}
 use Rattle.gf_maximal.proofs.LargestLemmas.{IsConflict}
 use Rattle.gf_base.proofs.ListLemmas.{Contains-cons_cases, Contains-cons_head, not_Contains-nil}
 use Rattle.gf_base.proofs.FilterLemmas.{list_any_true, list_any_false}
-use Rattle.gf_maximal.specs.Tables.{Hits}
+use Rattle.gf_maximal.specs.LargestSets.{Hits}
 
 module _ {X : Type 0} (c : X → X → Bool) (s : IsConflict c) where
   abbrev IsCompatible : List X → Type 0

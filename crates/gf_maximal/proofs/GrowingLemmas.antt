@@ -12,7 +12,7 @@ use Rattle.std.proofs.lemmas.List.Elements.{Contains-append_right, Contains-push
 use Rattle.std.proofs.lemmas.List.Elements.{Contains-push_cases}
 use Rattle.std.proofs.lemmas.List.Kept.{IsStrictlySortedBy-filter, AllPairs-filter}
 use Rattle.gf_maximal.specs.Growing.{is_in, intersects, is_disjoint, without, joined, maximal, next}
-use Rattle.gf_maximal.specs.Tables.{Hits, IsLargest, IsRising, IsTable}
+use Rattle.gf_maximal.specs.LargestSets.{Hits, IsLargest, IsRising, AreLargestSets}
 use Rattle.gf_base.proofs.ListLemmas.{Contains-cons_cases, Contains-cons_head, not_Contains-nil}
 use Rattle.gf_base.proofs.ListLemmas.{Contains-map, Contains-map_from}
 use Rattle.gf_base.proofs.FilterLemmas.{Contains-filter, list_any_true, list_any_false}
@@ -29,8 +29,8 @@ use Rattle.gf_maximal.proofs.MaximalLemmas.{intersects_from}
 use Rattle.gf_maximal.proofs.MaximalLemmas.{intersects_none, Contains-without}
 
 -- nothing has one set, the empty one
-pub table_first : (c : ℕ → ℕ → Bool) → IsTable c [] ([] ∷ [])
-table_first c = record {
+pub largest_first : (c : ℕ → ℕ → Bool) → AreLargestSets c [] ([] ∷ [])
+largest_first c = record {
   each = λ g. (
     λ h. elim (Contains-cons_cases [] [] g h) [
       | inl e ↦ subst (λ z. IsRising z × IsLargest c (Contains []) (Contains z)) (sym e) (
@@ -180,7 +180,7 @@ module _ (c : ℕ → ℕ → Bool) (s : IsConflict c) (us : List ℕ) (x : ℕ)
     | inr f ↦ absurd (missing g w (subst (Contains g) f i))
   ]
 
-  module _ (gs : List (List ℕ)) (table : IsTable c us gs) where
+  module _ (gs : List (List ℕ)) (table : AreLargestSets c us gs) where
     abbrev calms : List (List ℕ)
     calms = filter (is_disjoint d) gs
 
@@ -385,8 +385,8 @@ module _ (c : ℕ → ℕ → Bool) (s : IsConflict c) (us : List ℕ) (x : ℕ)
       | inr i ↦ (calm_or_new g (inr i)).0
     ]
 
-    pub table_next : IsTable c all (next d x gs)
-    table_next = record {
+    pub largest_next : AreLargestSets c all (next d x gs)
+    largest_next = record {
       each = λ q. (
         sound q,
         λ m. elim (m.1.largest x ((comes.exactly x).1 (inr refl))) [

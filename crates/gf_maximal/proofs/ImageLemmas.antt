@@ -6,7 +6,7 @@ use Rattle.std.specs.Ordering.{nat_cmp}
 use Rattle.std.proofs.lemmas.Cmp.{nat_cmp_total}
 use Rattle.std.proofs.lemmas.List.Kept.{IsStrictlySortedBy-filter}
 use Rattle.gf_maximal.specs.Growing.{is_in, image}
-use Rattle.gf_maximal.specs.Tables.{IsLargest, IsRising, IsTable}
+use Rattle.gf_maximal.specs.LargestSets.{IsLargest, IsRising, AreLargestSets}
 use Rattle.gf_base.proofs.ListLemmas.{not_Contains-nil, Contains-map, Contains-map_from}
 use Rattle.gf_base.proofs.FilterLemmas.{Contains-filter}
 use Rattle.gf_base.proofs.RisingLemmas.{one_rising, rising_nil}
@@ -102,9 +102,9 @@ module _ (f : ℕ → ℕ) where
         ))
 
     -- THE TABLE of what stands for the numbers
-    pub table_image : (gs : List (List ℕ)) → IsTable c us gs
-        → IsTable e (image f us) (map (image f) gs)
-    table_image gs t = record {
+    pub largest_image : (gs : List (List ℕ)) → AreLargestSets c us gs
+        → AreLargestSets e (image f us) (map (image f) gs)
+    largest_image gs t = record {
       each = λ q. (
         λ h. let w = Contains-map_from (image f) gs q h in
             let m = (t.each w.0).0 w.1 in

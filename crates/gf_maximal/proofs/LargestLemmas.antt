@@ -1,7 +1,7 @@
 -- Largest compatible groups, as predicates, when the universe grows by one element.
 use Rattle.std.proofs.Common.{◌≡◌, Bool, false, inl, inr, subst, sym}
 use Rattle.std.specs.Prelude.{◌⊎◌, ◌↔◌}
-use Rattle.gf_maximal.specs.Tables.{Hits, IsLargest}
+use Rattle.gf_maximal.specs.LargestSets.{Hits, IsLargest}
 
 module _ {X : Type 0} (c : X → X → Bool) where
   -- p and x

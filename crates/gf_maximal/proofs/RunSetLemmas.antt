@@ -17,7 +17,7 @@ use Rattle.gf_maximal.specs.declared.run.Run.{Run}
 use Rattle.gf_maximal.specs.Growing.{is_in, intersects, without, is_within}
 use Rattle.gf_maximal.specs.Runs.{numbers_of, members, AreRuns, after, is_inside}
 use Rattle.gf_maximal.specs.Runs.{first_touches, first_covers, touches, covers, piece, cut, all_cut}
-use Rattle.gf_maximal.specs.Tables.{IsRising}
+use Rattle.gf_maximal.specs.LargestSets.{IsRising}
 use Rattle.gf_base.proofs.ListLemmas.{Contains-cons_cases, Contains-cons_head, Contains-cons_tail}
 use Rattle.gf_base.proofs.ListLemmas.{not_Contains-nil}
 use Rattle.gf_base.proofs.FilterLemmas.{list_any_true, list_any_from, list_all_true, list_all_from}

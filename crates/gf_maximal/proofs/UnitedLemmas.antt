@@ -14,7 +14,7 @@ use Rattle.std.proofs.lemmas.List.Elements.{Contains-append_right}
 use Rattle.std.proofs.lemmas.List.Sorted.{Contains-permutation, IsPermutation-sym}
 use Rattle.gf_maximal.specs.declared.run.Run.{Run}
 use Rattle.std.specs.BTreeSet.{insert_key}
-use Rattle.gf_maximal.specs.Tables.{IsRising}
+use Rattle.gf_maximal.specs.LargestSets.{IsRising}
 use Rattle.gf_base.proofs.RisingLemmas.{rising_nil}
 use Rattle.gf_maximal.specs.Growing.{is_in, without, united, common}
 use Rattle.gf_maximal.specs.Runs.{members, AreRuns, pushed, single, IsGathered}

@@ -1,4 +1,4 @@
-pub mod Tables
+pub mod LargestSets
 pub mod Pairs
 pub mod Growing
 pub mod Runs

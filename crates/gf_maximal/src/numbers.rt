@@ -6,7 +6,7 @@ ghost use Rattle.std.specs.BTreeSet.{insert_key};
 ghost use Rattle.std.specs.List.{fold, list_any, list_all, range_with_len};
 ghost use Rattle.std.specs.Ordering.{nat_cmp};
 ghost use Rattle.gf_maximal.specs.Growing.{is_in, intersects, without, is_within, joined};
-ghost use Rattle.gf_maximal.specs.Tables.{IsRising};
+ghost use Rattle.gf_maximal.specs.LargestSets.{IsRising};
 ghost use Rattle.gf_maximal.specs.Growing.{united, common};
 ghost use Rattle.gf_maximal.specs.Runs.{is_inside, members, numbers_of};
 

@@ -40,7 +40,8 @@ use Rattle.gf_rivals.proofs.SetterLemmas.{setters_push, at_index}
 use Rattle.gf_rivals.specs.declared.logs.TheConstants.{LOGS}
 
 -- a setter that was put behind the others and taken away again leaves the logs as they were
-pub taken_back : (ls now new : List (List Setter)) (t : Attr) (s : ℕ) (e : Setter) → length ls ≡ LOGS
+pub taken_back : (ls now new : List (List Setter)) (t : Attr) (s : ℕ) (e : Setter) → length ls
+    ≡ LOGS
     → s < 8 → now ≡ with_setter ls t s e →
     ((us : List Setter) (d : Setter) → setters now t s ≡ us ++ d ∷ [] → new ≡ with_log now t s us)
     → new ≡ ls

@@ -2,7 +2,7 @@
 
 ghost use Rattle.std.specs.Prelude.{◌≡◌, ◌≢◌, ◌↔◌, ◌*◌, ◌<◌, ◌≤◌, Contains, Some};
 ghost use Rattle.std.specs.Prelude.{IfOk, IfSome, OnOk, IsTrue, option_copied};
-ghost use Rattle.gf_maximal.specs.Tables.{IsRising};
+ghost use Rattle.gf_maximal.specs.LargestSets.{IsRising};
 ghost use Rattle.gf_ops.specs.Limits.{IsInRange};
 ghost use Rattle.gf_rivals.specs.Aimed.{ConflictDirectly, ConflictsWithOne, op_of};
 ghost use Rattle.gf_rivals.specs.Comparing.{AddsIf};

@@ -4,14 +4,14 @@ use Rattle.std.specs.Prelude.{◌↔◌, Contains, Option, Some, None}
 use Rattle.std.proofs.lemmas.List.{length-map}
 use Rattle.gf_base.proofs.ListLemmas.{Contains-map, Contains-map_from}
 use Rattle.gf_maximal.specs.Growing.{image}
-use Rattle.gf_maximal.specs.Tables.{IsRising}
-use Rattle.gf_maximal.proofs.ImageLemmas.{Made, image_rises, in_image, table_image}
+use Rattle.gf_maximal.specs.LargestSets.{IsRising}
+use Rattle.gf_maximal.proofs.ImageLemmas.{Made, image_rises, in_image, largest_image}
 use Rattle.gf_maximal.proofs.LargestLemmas.{IsConflict}
 use Rattle.gf_maximal.proofs.PairLemmas.{Pairs-from, Pairs-map}
 use Rattle.gf_components.specs.Components.{ComponentState, ComponentsState, alone, whole}
 use Rattle.gf_components.specs.Separate.{Apart, AreComponents, IsComponent, AreSetsKept}
 use Rattle.gf_components.proofs.ComponentLemmas.{all_of_fold}
-use Rattle.gf_components.proofs.CountLemmas.{a_table, tables_long}
+use Rattle.gf_components.proofs.CountLemmas.{some_largest, as_many_largest}
 use Rattle.gf_table.specs.ByPosition.{sets_at, component_at, components_at}
 
 module _ (f : ℕ → ℕ) (c e : ℕ → ℕ → Bool) (first : IsConflict c) (second : IsConflict e)
@@ -31,19 +31,19 @@ module _ (f : ℕ → ℕ) (c e : ℕ → ℕ → Bool) (first : IsConflict c) (
   kept_image : (us : List ℕ) → IsRising us → Within us → (r : Option (List (List ℕ)))
       → AreSetsKept c us r → AreSetsKept e (image f us) (sets_at f r)
   kept_image us rises w (Some gs) k = (
-    table_image f c e us rises (λ a b i j. one a b (w a i) (w b j))
+    largest_image f c e us rises (λ a b i j. one a b (w a i) (w b j))
         (λ a b i j. same a b (w a i) (w b j)) gs k.0,
     let long : length (map (image f) gs) ≡ length gs = length-map gs (image f) in
         let few = k.1 in
         omega (arith, long, few),
   )
   kept_image us rises w None k = λ gs t.
-      let own = a_table c first us rises in
-      let made = table_image f c e us rises (λ a b i j. one a b (w a i) (w b j))
+      let own = some_largest c first us rises in
+      let made = largest_image f c e us rises (λ a b i j. one a b (w a i) (w b j))
       (λ a b i j. same a b (w a i) (w b j)) own.sets own.table in
       let long : length (map (image f) own.sets) ≡ length own.sets = length-map own.sets (image f)
       in
-      let alike = tables_long e second (image f us) (map (image f) own.sets) gs made t in
+      let alike = as_many_largest e second (image f us) (map (image f) own.sets) gs made t in
       let many = k own.sets own.table in
       omega (arith, long, alike, many)
 

@@ -13,12 +13,12 @@ use Rattle.gf_ops.specs.ValidHistory.{IsValid}
 use Rattle.gf_groups.specs.Growing.{conflict_at, groups_at}
 use Rattle.gf_groups.specs.GroupedPositions.{group_at}
 use Rattle.gf_groups.specs.Versions.{IsMade}
-use Rattle.gf_groups.proofs.TableLemmas.{conflict_at_test, table_groups}
-use Rattle.gf_maximal.specs.Tables.{IsRising, IsTable}
+use Rattle.gf_groups.proofs.LargestGroupLemmas.{conflict_at_test, largest_groups}
+use Rattle.gf_maximal.specs.LargestSets.{IsRising, AreLargestSets}
 use Rattle.gf_maximal.proofs.LargestLemmas.{IsConflict}
 use Rattle.gf_components.specs.Components.{ComponentState, ComponentsState, products}
 use Rattle.gf_components.specs.Separate.{IsComponent, AreSetsKept}
-use Rattle.gf_components.proofs.CountLemmas.{a_table, length-products, tables_long}
+use Rattle.gf_components.proofs.CountLemmas.{some_largest, length-products, as_many_largest}
 use Rattle.gf_maximal.specs.Growing.{image}
 use Rattle.gf_table.specs.ByPosition.{component_at, components_at, sets_at}
 use Rattle.gf_table.specs.ObjectState.{ObjectState, position_in}
@@ -52,9 +52,10 @@ capped_times n k o = elim (cases_lt 1000 n) [
 ]
 
 module _ (c : ℕ → ℕ → Bool) (s : IsConflict c) where
-  some_set : (us : List ℕ) → IsRising us → (gs : List (List ℕ)) → IsTable c us gs → 1 ≤ length gs
-  some_set us rises gs t = let w = a_table c s us rises in
-      let e = tables_long c s us gs w.sets t w.table in let o = w.some in omega (arith, e, o)
+  some_set : (us : List ℕ) → IsRising us → (gs : List (List ℕ)) → AreLargestSets c us gs
+      → 1 ≤ length gs
+  some_set us rises gs t = let w = some_largest c s us rises in
+      let e = as_many_largest c s us gs w.sets t w.table in let o = w.some in omega (arith, e, o)
 
   -- one component more
   counts_more : (us : List ℕ) → IsRising us → (n : ℕ) → 1 ≤ n → (r : Option (List (List ℕ)))
@@ -64,7 +65,7 @@ module _ (c : ℕ → ℕ → Bool) (s : IsConflict c) where
   counts_more us rises n o (Some gs) k = let l = some_set us rises gs k.0 in
       (l, capped_times n (length gs) l)
   counts_more us rises n o None k =
-      let table = table_groups c s us rises in
+      let table = largest_groups c s us rises in
       let m = k (groups_at c us) table in
       let a = times_some (length (groups_at c us)) n o in
       let d = mul_comm (length (groups_at c us)) n in

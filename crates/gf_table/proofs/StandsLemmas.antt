@@ -32,7 +32,7 @@ use Rattle.gf_groups.proofs.OnPositionLemmas.{on_to}
 use Rattle.gf_groups.proofs.PositionLemmas.{Contains-positions_below}
 use Rattle.gf_groups.proofs.PartingLemmas.{object_cmp_total, object_cmp_exact}
 use Rattle.gf_groups.proofs.SortedLemmas.{equal_left}
-use Rattle.gf_groups.proofs.TableLemmas.{conflict_at_test}
+use Rattle.gf_groups.proofs.LargestGroupLemmas.{conflict_at_test}
 use Rattle.gf_components.specs.Components.{ComponentState, ComponentsState, alone, no_components}
 use Rattle.gf_components.specs.Components.{whole}
 use Rattle.gf_components.proofs.ComponentLemmas.{all_of_fold, first_components}

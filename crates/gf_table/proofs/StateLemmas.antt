@@ -27,7 +27,7 @@ use Rattle.gf_components.proofs.AgreeLemmas.{components_agree}
 use Rattle.gf_components.proofs.ComponentLemmas.{components_after}
 use Rattle.gf_groups.specs.Growing.{conflict_at}
 use Rattle.gf_groups.proofs.OnPositionLemmas.{conflict_from, contained_at}
-use Rattle.gf_groups.proofs.TableLemmas.{conflict_at_test}
+use Rattle.gf_groups.proofs.LargestGroupLemmas.{conflict_at_test}
 use Rattle.gf_rivals.specs.declared.log.Setter.{Setter}
 use Rattle.gf_rivals.specs.declared.fingerprint.Fingerprint.{Fingerprint}
 use Rattle.gf_rivals.specs.Fingerprints.{fingerprint_of}

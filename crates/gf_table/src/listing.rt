@@ -3,7 +3,7 @@
 ghost use Rattle.std.specs.Prelude.{◌≡◌, ◌<◌, length, Contains, IfOk};
 ghost use Rattle.gf_components.specs.Components.{products};
 ghost use Rattle.gf_groups.specs.Growing.{conflict_at};
-ghost use Rattle.gf_maximal.specs.Tables.{IsRising};
+ghost use Rattle.gf_maximal.specs.LargestSets.{IsRising};
 ghost use Rattle.gf_table.specs.Standing.{AreComponentsOn, full, listed};
 
 use gf_base::OutOfMemory;

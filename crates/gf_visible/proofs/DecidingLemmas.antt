@@ -18,15 +18,15 @@ use Rattle.gf_groups.specs.GroupedPositions.{group_at, is_on, positions_below, r
 use Rattle.gf_groups.specs.Growing.{conflict_at, groups_at}
 use Rattle.gf_groups.specs.Versions.{IsMade, IsVersionGroup}
 use Rattle.gf_groups.proofs.OnPositionLemmas.{all_positions}
-use Rattle.gf_groups.proofs.TableLemmas.{conflict_at_test, table_groups}
+use Rattle.gf_groups.proofs.LargestGroupLemmas.{conflict_at_test, largest_groups}
 use Rattle.gf_groups.proofs.VersionLemmas.{version_of_largest}
 use Rattle.gf_maximal.specs.Growing.{united}
-use Rattle.gf_maximal.specs.Tables.{IsLargest, IsTable}
+use Rattle.gf_maximal.specs.LargestSets.{IsLargest, AreLargestSets}
 use Rattle.gf_base.proofs.FilterLemmas.{list_any_true, list_any_false}
 use Rattle.gf_maximal.proofs.UnitedLemmas.{Contains-united}
 use Rattle.gf_components.specs.Components.{ComponentsState, products, whole}
 use Rattle.gf_components.proofs.ProductLemmas.{Contains-products, Contains-products_from}
-use Rattle.gf_components.proofs.ProductLemmas.{products_once, table_alike, table_product}
+use Rattle.gf_components.proofs.ProductLemmas.{products_once, largest_alike, largest_product}
 use Rattle.gf_visible.specs.Choices.{AreShowing, IsCovered}
 use Rattle.gf_table.specs.Standing.{AreComponentsOn}
 use Rattle.gf_versions.proofs.VersionLemmas.{some_version}
@@ -138,18 +138,18 @@ module _ (h : List Op) (o : ObjectId) (t : ComponentsState) (on : AreComponentsO
   module _ (valid : IsValid h) (made : IsMade h o) (gs ks : List (List ℕ))
       (some : AreShowing (hides_at h) (covers_at h) (conflict_at h) (deciding h (lasts h t.free) t)
       gs)
-      (others : IsTable (conflict_at h) (whole (idle h (lasts h t.free) t)).all ks) where
+      (others : AreLargestSets (conflict_at h) (whole (idle h (lasts h t.free) t)).all ks) where
     abbrev all : List (List ℕ)
     all = groups_at c first
 
-    table : IsTable (conflict_at h) (deciding h (lasts h t.free) t)
+    table : AreLargestSets (conflict_at h) (deciding h (lasts h t.free) t)
         (groups_at (conflict_at h) (deciding h (lasts h t.free) t))
-    table = table_groups (conflict_at h) (conflict_at_test h) first (first_rises h o t on)
+    table = largest_groups (conflict_at h) (conflict_at_test h) first (first_rises h o t on)
 
-    halves : IsTable (conflict_at h) (positions_below h o (length h))
+    halves : AreLargestSets (conflict_at h) (positions_below h o (length h))
         (products (groups_at (conflict_at h) (deciding h (lasts h t.free) t)) ks)
-    halves = table_alike c (united first second) us (products all ks) (both_halves h o t on)
-        (table_product c (conflict_at_test h) first second (halves_apart h o t on) all ks table
+    halves = largest_alike c (united first second) us (products all ks) (both_halves h o t on)
+        (largest_product c (conflict_at_test h) first second (halves_apart h o t on) all ks table
         others)
 
     of_rest : (k : List ℕ) → Contains ks k → (a : ℕ) → Contains k a

@@ -12,9 +12,9 @@ use Rattle.gf_base.proofs.ListLemmas.{Contains-cons_cases, Contains-cons_head, C
 use Rattle.gf_base.proofs.ListLemmas.{not_Contains-nil}
 use Rattle.gf_groups.specs.GroupedPositions.{positions_below}
 use Rattle.gf_groups.specs.Growing.{conflict_at}
-use Rattle.gf_groups.proofs.TableLemmas.{conflict_at_test}
+use Rattle.gf_groups.proofs.LargestGroupLemmas.{conflict_at_test}
 use Rattle.gf_maximal.specs.Growing.{is_in, united, without}
-use Rattle.gf_maximal.specs.Tables.{IsLargest, IsRising}
+use Rattle.gf_maximal.specs.LargestSets.{IsLargest, IsRising}
 use Rattle.gf_maximal.proofs.LargestLemmas.{IsConflict}
 use Rattle.gf_base.proofs.FilterLemmas.{Contains-filter}
 use Rattle.gf_maximal.proofs.MaximalLemmas.{from_list, not_in, Contains-without}

@@ -4,7 +4,7 @@ use Rattle.gf_ops.specs.declared.op.Op.{Op}
 use Rattle.gf_ops.specs.declared.op.ObjectId.{ObjectId}
 use Rattle.gf_ops.specs.ValidHistory.{IsValid}
 use Rattle.gf_groups.specs.Growing.{conflict_at}
-use Rattle.gf_maximal.specs.Tables.{IsRising}
+use Rattle.gf_maximal.specs.LargestSets.{IsRising}
 use Rattle.gf_visible.specs.Choices.{AreShowing}
 use Rattle.gf_visible.specs.Cuts.{cut, has_some, seen}
 use Rattle.gf_visible.specs.OnePass.{search}

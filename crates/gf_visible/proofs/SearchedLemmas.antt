@@ -16,7 +16,7 @@ use Rattle.gf_base.proofs.FilterLemmas.{Contains-filter}
 use Rattle.gf_ops.specs.declared.op.Op.{Op}
 use Rattle.gf_ops.specs.ValidHistory.{IsValid}
 use Rattle.gf_maximal.specs.Growing.{is_in, joined, intersects, without}
-use Rattle.gf_maximal.specs.Tables.{IsRising}
+use Rattle.gf_maximal.specs.LargestSets.{IsRising}
 use Rattle.gf_maximal.proofs.MaximalLemmas.{in_list, from_list}
 use Rattle.gf_visible.specs.Cuts.{AreWithin, cut, has_some, misses, rivals, seen}
 use Rattle.gf_visible.specs.Deciding.{next_lasts, taken}

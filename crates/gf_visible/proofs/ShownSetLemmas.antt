@@ -20,12 +20,12 @@ use Rattle.gf_groups.specs.GroupedPositions.{positions_below}
 use Rattle.gf_groups.specs.Growing.{conflict_at}
 use Rattle.gf_groups.specs.Versions.{IsMade}
 use Rattle.gf_groups.proofs.OnPositionLemmas.{all_positions, on_op}
-use Rattle.gf_groups.proofs.TableLemmas.{conflict_at_test}
-use Rattle.gf_maximal.specs.Tables.{IsRising, IsTable}
+use Rattle.gf_groups.proofs.LargestGroupLemmas.{conflict_at_test}
+use Rattle.gf_maximal.specs.LargestSets.{IsRising, AreLargestSets}
 use Rattle.gf_components.specs.Components.{ComponentsState, most_sets, products, whole}
 use Rattle.gf_components.specs.Separate.{IsComponent, AreSetsKept}
-use Rattle.gf_components.proofs.ComponentLemmas.{table_whole}
-use Rattle.gf_components.proofs.CountLemmas.{HasTable, a_table, length-products}
+use Rattle.gf_components.proofs.ComponentLemmas.{component_whole}
+use Rattle.gf_components.proofs.CountLemmas.{HasLargestSets, some_largest, length-products}
 use Rattle.gf_ops.specs.Attribute.{aim_of, object_of}
 use Rattle.gf_groups.specs.GroupedPositions.{is_on}
 use Rattle.gf_groups.proofs.OnPositionLemmas.{on_from}
@@ -86,18 +86,20 @@ module _ (h : List Op) (o : ObjectId) (t : ComponentsState) (on : AreComponentsO
   rest = (whole (idle h (lasts h t.free) t)).all
 
   is_rest : IsComponent (conflict_at h) (whole (idle h (lasts h t.free) t))
-  is_rest = table_whole (conflict_at h) (conflict_at_test h) (idle h (lasts h t.free) t)
+  is_rest = component_whole (conflict_at h) (conflict_at_test h) (idle h (lasts h t.free) t)
       (components_idle h o t on)
 
-  all_rest : HasTable (conflict_at h) (conflict_at_test h) (whole (idle h (lasts h t.free) t)).all
-  all_rest = a_table (conflict_at h) (conflict_at_test h) rest is_rest.rises
+  all_rest : HasLargestSets (conflict_at h) (conflict_at_test h)
+      (whole (idle h (lasts h t.free) t)).all
+  all_rest = some_largest (conflict_at h) (conflict_at_test h) rest is_rest.rises
 
   -- all that show of what decides
   module _ (shown : List (List ℕ)) (lists : (ks : List (List ℕ))
-      → IsTable (conflict_at h) (whole (idle h (lasts h t.free) t)).all ks
+      → AreLargestSets (conflict_at h) (whole (idle h (lasts h t.free) t)).all ks
       → AreShownSets h (positions_below h o (length h)) (products shown ks)) where
     -- more show than so many
-    many : (ks : List (List ℕ)) → IsTable (conflict_at h) (whole (idle h (lasts h t.free) t)).all ks
+    many : (ks : List (List ℕ))
+        → AreLargestSets (conflict_at h) (whole (idle h (lasts h t.free) t)).all ks
         → n < length shown * length ks → IsSetListing h (positions_below h o (length h)) n None
     many ks table l = let len = length-products shown ks in record {
       sets = products shown ks;

@@ -9,7 +9,7 @@ use Rattle.std.proofs.lemmas.Cmp.{nat_cmp_total}
 use Rattle.std.proofs.lemmas.List.Kept.{IsStrictlySortedBy-filter}
 use Rattle.gf_base.proofs.ListLemmas.{Contains-cons_head, Contains-map, Contains-map_from}
 use Rattle.gf_maximal.specs.Growing.{is_in}
-use Rattle.gf_maximal.specs.Tables.{IsRising, IsLargest}
+use Rattle.gf_maximal.specs.LargestSets.{IsRising, IsLargest}
 use Rattle.gf_base.proofs.FilterLemmas.{Contains-filter}
 use Rattle.gf_maximal.proofs.MaximalLemmas.{in_list, from_list}
 use Rattle.gf_maximal.proofs.PairLemmas.{AllPairs-map}

@@ -4,7 +4,7 @@ use Rattle.std.specs.Prelude.{◌||◌, cond}
 use Rattle.std.specs.Prelude.{List, [], ◌∷◌, ◌++◌, filter, map, AllPairs, Contains}
 use Rattle.std.specs.List.{list_all}
 use Rattle.gf_maximal.specs.Growing.{intersects, without}
-use Rattle.gf_maximal.specs.Tables.{IsLargest, IsRising}
+use Rattle.gf_maximal.specs.LargestSets.{IsLargest, IsRising}
 
 -- a position alone, whether it hides, the positions that cover it, and its rivals
 pub record StepState : Type 0 where

@@ -5,7 +5,7 @@ use Rattle.std.specs.Prelude.{List, AllPairs, Contains}
 use Rattle.std.specs.Prelude.{length, slice_get, Option, Some, None}
 use Rattle.gf_ops.specs.declared.op.Op.{Op}
 use Rattle.gf_groups.specs.Growing.{conflict_at}
-use Rattle.gf_maximal.specs.Tables.{IsLargest, IsRising}
+use Rattle.gf_maximal.specs.LargestSets.{IsLargest, IsRising}
 use Rattle.gf_ops.specs.declared.op.ObjectId.{ObjectId}
 use Rattle.gf_groups.specs.GroupedPositions.{is_on}
 use Rattle.gf_visible.specs.Choices.{AreShowing}

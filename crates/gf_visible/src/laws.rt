@@ -5,7 +5,7 @@ ghost use Rattle.gf_groups.specs.Growing.{conflict_at};
 ghost use Rattle.gf_ops.specs.ValidHistory.{IsValid};
 ghost use Rattle.gf_ops.specs.declared.op.ObjectId.{ObjectId};
 ghost use Rattle.gf_ops.specs.declared.op.Op.{Op};
-ghost use Rattle.gf_maximal.specs.Tables.{IsRising};
+ghost use Rattle.gf_maximal.specs.LargestSets.{IsRising};
 ghost use Rattle.gf_visible.specs.Choices.{AreShowing, showing};
 ghost use Rattle.gf_visible.specs.Cuts.{cut, has_some, seen};
 ghost use Rattle.gf_visible.specs.OnePass.{search};

@@ -8,12 +8,12 @@ use Rattle.gf_ops.specs.declared.op.Op.{Op}
 use Rattle.gf_ops.specs.declared.op.ObjectId.{ObjectId}
 use Rattle.gf_groups.specs.Growing.{conflict_at, groups_at}
 use Rattle.gf_groups.specs.GroupedPositions.{group_at, groups_on, positions_below}
-use Rattle.gf_maximal.specs.Tables.{IsRising}
+use Rattle.gf_maximal.specs.LargestSets.{IsRising}
 use Rattle.gf_groups.specs.Parting.{HasPositionsBelow, HasAllPositions, groups_of_entries}
 use Rattle.gf_groups.proofs.AllGroupLemmas.{all_versions}
 use Rattle.gf_groups.proofs.PartingLemmas.{entries_parts}
 use Rattle.gf_groups.proofs.PositionLemmas.{positions_below-bounded, positions_below-rising}
-use Rattle.gf_groups.proofs.TableLemmas.{groups_rise}
+use Rattle.gf_groups.proofs.LargestGroupLemmas.{groups_rise}
 use Rattle.gf_groups.proofs.groups.all_groups.Goals as goal
 
 -- the next entry's groups are behind the others

@@ -5,13 +5,13 @@ use Rattle.gf_groups.specs.GroupedPositions.{positions_below, group_at}
 use Rattle.gf_groups.proofs.GroupLemmas.{versions_sorted}
 use Rattle.gf_groups.proofs.OnPositionLemmas.{all_positions}
 use Rattle.gf_groups.proofs.PositionLemmas.{positions_below-rising}
-use Rattle.gf_groups.proofs.TableLemmas.{table_rises}
+use Rattle.gf_groups.proofs.LargestGroupLemmas.{largest_rise}
 use Rattle.gf_groups.proofs.groups.groups_from.Goals as goal
 
 pub add_groups-requires : goal.add_groups-requires
 add_groups-requires c =
     let h = c.args.history.now.ops in
-    table_rises (conflict_at h) (positions_below h c.args.object (length h)) c.args.sets.items
+    largest_rise (conflict_at h) (positions_below h c.args.object (length h)) c.args.sets.items
     c.requires.table
 
 pub returns : goal.returns

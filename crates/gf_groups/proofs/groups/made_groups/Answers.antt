@@ -1,9 +1,9 @@
 use Rattle.std.proofs.Common.{◌≡◌, ◌<◌, ◌^◌, length, ap, subst, sym, ◌∙◌, rules}
 use Rattle.gf_groups.specs.Growing.{conflict_at, groups_at}
 use Rattle.gf_groups.specs.GroupedPositions.{positions_below}
-use Rattle.gf_maximal.specs.Tables.{IsTable}
+use Rattle.gf_maximal.specs.LargestSets.{AreLargestSets}
 use Rattle.gf_groups.proofs.PositionLemmas.{positions_below-bounded, positions_below-rising}
-use Rattle.gf_groups.proofs.TableLemmas.{conflict_at_test, table_groups}
+use Rattle.gf_groups.proofs.LargestGroupLemmas.{conflict_at_test, largest_groups}
 use Rattle.gf_groups.proofs.groups.made_groups.Goals as goal
 
 pub groups_at-requires-clause-rising : goal.groups_at-requires-clause-rising
@@ -23,5 +23,6 @@ groups_from-requires-clause-table c =
     let positions : c.deref.result.now ≡ us = c.deref.ensures.value
     ∙ (rw c.ops.ensures.ops at c.in_ok-positions.ensures) in
     let sets = c.in_ok-sets.ensures ∙ ap (groups_at (conflict_at h)) positions in
-    subst (IsTable (conflict_at h) us) (sym sets) (table_groups (conflict_at h) (conflict_at_test h)
+    subst (AreLargestSets (conflict_at h) us) (sym sets)
+    (largest_groups (conflict_at h) (conflict_at_test h)
     us (positions_below-rising h c.args.object (length h)))

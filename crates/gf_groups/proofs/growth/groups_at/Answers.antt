@@ -6,7 +6,7 @@ use Rattle.std.proofs.lemmas.List.{take_more}
 use Rattle.gf_groups.specs.Growing.{conflict_at, rivals}
 use Rattle.gf_maximal.specs.Growing.{next}
 use Rattle.gf_base.proofs.RisingLemmas.{rising_front}
-use Rattle.gf_groups.proofs.TableLemmas.{groups_at-push}
+use Rattle.gf_groups.proofs.LargestGroupLemmas.{groups_at-push}
 use Rattle.gf_groups.proofs.growth.groups_at.Goals as goal
 
 pub rivals-requires-clause-rising : goal.rivals-requires-clause-rising

@@ -5,9 +5,9 @@ use Rattle.std.proofs.lemmas.Cmp.{nat_cmp_total}
 use Rattle.std.proofs.lemmas.List.{take_more}
 use Rattle.gf_groups.specs.Growing.{conflict_at}
 use Rattle.gf_maximal.specs.Growing.{joined}
-use Rattle.gf_maximal.specs.Tables.{IsRising}
+use Rattle.gf_maximal.specs.LargestSets.{IsRising}
 use Rattle.gf_base.proofs.RisingLemmas.{rising_front}
-use Rattle.gf_groups.proofs.TableLemmas.{rivals_more, rivals_same}
+use Rattle.gf_groups.proofs.LargestGroupLemmas.{rivals_more, rivals_same}
 use Rattle.gf_groups.proofs.growth.rivals.Goals as goal
 use Rattle.gf_groups.proofs.growth.rivals.Goals.{then-conflict_at+in_ok-join, else-conflict_at}
 

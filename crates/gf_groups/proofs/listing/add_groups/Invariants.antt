@@ -2,7 +2,7 @@ use Rattle.std.proofs.Common.{◌≡◌, ◌++◌, map}
 use Rattle.std.specs.Prelude.{All}
 use Rattle.std.specs.Vec.Iter.{into_iter_items}
 use Rattle.gf_groups.specs.GroupedPositions.{group_at}
-use Rattle.gf_maximal.specs.Tables.{IsRising}
+use Rattle.gf_maximal.specs.LargestSets.{IsRising}
 use Rattle.gf_groups.proofs.listing.add_groups.Given as goal
 
 abbrev pub invariant-loop-set : goal.invariant-loop-set

@@ -1,5 +1,5 @@
 use Rattle.std.proofs.Common.{List, ℕ, subst, sym, ◌∙◌}
-use Rattle.gf_maximal.specs.Tables.{IsRising}
+use Rattle.gf_maximal.specs.LargestSets.{IsRising}
 use Rattle.gf_rivals.specs.declared.members.Member.{Member}
 use Rattle.gf_rivals.specs.Aimed.{ConflictsWithOne}
 use Rattle.gf_rivals.specs.Members.{AreMembers, AreMembersOf}

@@ -1,7 +1,7 @@
 use Rattle.std.proofs.Common.{◌≡◌, ℕ, Vec, Global, ap, subst, sym, ◌∙◌}
 use Rattle.std.proofs.lemmas.Result.{IfOk-weaker}
 use Rattle.gf_maximal.specs.Runs.{members}
-use Rattle.gf_maximal.specs.Tables.{IsRising}
+use Rattle.gf_maximal.specs.LargestSets.{IsRising}
 use Rattle.gf_maximal.proofs.RunSetLemmas.{members_rise}
 use Rattle.gf_maximal.proofs.numbers.Numbers.to_vec.Goals as goal
 

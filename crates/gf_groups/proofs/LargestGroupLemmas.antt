@@ -16,9 +16,9 @@ use Rattle.std.proofs.lemmas.List.Kept.{IsStrictlySortedBy-filter}
 use Rattle.gf_ops.specs.declared.op.Op.{Op}
 use Rattle.gf_maximal.specs.Growing.{joined, next}
 use Rattle.gf_groups.specs.Growing.{both_conflict, conflict_at, rivals, grown, groups_at}
-use Rattle.gf_maximal.specs.Tables.{IsRising, IsTable}
+use Rattle.gf_maximal.specs.LargestSets.{IsRising, AreLargestSets}
 use Rattle.gf_groups.proofs.ConflictTestLemmas.{in_conflict-sym}
-use Rattle.gf_maximal.proofs.GrowingLemmas.{Comes, table_first, table_next}
+use Rattle.gf_maximal.proofs.GrowingLemmas.{Comes, largest_first, largest_next}
 use Rattle.gf_maximal.proofs.InsertLemmas.{inserted, holds}
 use Rattle.gf_maximal.proofs.LargestLemmas.{IsConflict}
 use Rattle.gf_base.proofs.FilterLemmas.{Contains-filter}
@@ -107,26 +107,27 @@ module _ (c : ℕ → ℕ → Bool) where
   }
 
   module _ (s : IsConflict c) where
-    table_grown : (us xs : List ℕ) (gs : List (List ℕ)) → IsTable c us gs → IsRising (us ++ xs)
-        → IsTable c (us ++ xs) (grown c us xs gs)
-    table_grown us [] gs table form = rw append-nil table
-    table_grown us (x ∷ xs) gs table form =
+    largest_grown : (us xs : List ℕ) (gs : List (List ℕ)) → AreLargestSets c us gs
+        → IsRising (us ++ xs)
+        → AreLargestSets c (us ++ xs) (grown c us xs gs)
+    largest_grown us [] gs table form = rw append-nil table
+    largest_grown us (x ∷ xs) gs table form =
         let d = rivals c us x in
         let all : (us ++ x ∷ []) ++ xs ≡ us ++ x ∷ xs = append_assoc us (x ∷ []) xs in
-        let more = table_next c s us x d (us ++ x ∷ []) (comes us x xs form) gs table in
-        let step = table_grown (us ++ x ∷ []) xs (next d x gs) more (rw all form) in
+        let more = largest_next c s us x d (us ++ x ∷ []) (comes us x xs form) gs table in
+        let step = largest_grown (us ++ x ∷ []) xs (next d x gs) more (rw all form) in
         rw (← all) step
 
     -- THE TABLE of rising positions
-    pub table_groups : (xs : List ℕ) → IsRising xs → IsTable c xs (groups_at c xs)
-    table_groups xs form = table_grown [] xs ([] ∷ []) (table_first c) form
+    pub largest_groups : (xs : List ℕ) → IsRising xs → AreLargestSets c xs (groups_at c xs)
+    largest_groups xs form = largest_grown [] xs ([] ∷ []) (largest_first c) form
 
-pub table_rises : (c : ℕ → ℕ → Bool) (us : List ℕ) (gs : List (List ℕ)) → IsTable c us gs
+pub largest_rise : (c : ℕ → ℕ → Bool) (us : List ℕ) (gs : List (List ℕ)) → AreLargestSets c us gs
     → All IsRising gs
-table_rises c us gs table = All-weaker (Contains gs) IsRising (λ g i. ((table.each g).0 i).0) gs
+largest_rise c us gs table = All-weaker (Contains gs) IsRising (λ g i. ((table.each g).0 i).0) gs
     (All-contains_itself gs)
 
 pub groups_rise : (h : List Op) (xs : List ℕ) → IsRising xs
     → All IsRising (groups_at (conflict_at h) xs)
-groups_rise h xs form = table_rises (conflict_at h) xs (groups_at (conflict_at h) xs)
-    (table_groups (conflict_at h) (conflict_at_test h) xs form)
+groups_rise h xs form = largest_rise (conflict_at h) xs (groups_at (conflict_at h) xs)
+    (largest_groups (conflict_at h) (conflict_at_test h) xs form)

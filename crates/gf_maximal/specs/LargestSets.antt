@@ -21,7 +21,7 @@ abbrev pub IsRising : List ℕ → Type 0
 IsRising g = IsStrictlySortedBy nat_cmp g
 
 -- gs are the largest compatible sets of us, each once
-pub record IsTable (c : ℕ → ℕ → Bool) (us : List ℕ) (gs : List (List ℕ)) : Type 0 where
+pub record AreLargestSets (c : ℕ → ℕ → Bool) (us : List ℕ) (gs : List (List ℕ)) : Type 0 where
   pub each : (g : List ℕ) → Contains gs g
       ↔ (IsRising g × IsLargest c (Contains us) (Contains g))
   pub once : AllPairs (λ g h. g ≢ h) gs
