@@ -44,7 +44,8 @@ pub(crate) fn creations_of(
     layers: &[u16],
 ) -> Result<Vec<Change>, OutOfMemory> {
     let mut creations = Vec::new(alloc);
-    for (figure, (follower, layer)) in targets.into_iter().zip(followers.iter().zip(layers.iter())) {
+    let wished = followers.iter().zip(layers.iter());
+    for (figure, (follower, layer)) in targets.into_iter().zip(wished) {
         if follower.is_none() {
             creations.push(Change::Create(Start {
                 layer: *layer,

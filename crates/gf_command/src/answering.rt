@@ -36,9 +36,9 @@ use std::thread::Threads;
 /// Status 0 is success, 1 a refusal or something to be seen to, 2 a mistake in the words.
 ///
 /// Faults go to `faults`, as do the usage after a mistake, what an edit or a take made and the
-/// chosen window. How many operations wait, where a drawing leaves them out, and which polygons xfig
-/// does not keep are told there too. Help and version go to `output`. The words are read before any
-/// input. A text for `faults` that can't be written changes no status.
+/// chosen window. How many operations wait, where a drawing leaves them out, and which polygons
+/// xfig does not keep are told there too. Help and version go to `output`. The words are read
+/// before any input. A text for `faults` that can't be written changes no status.
 pub fn command<T: Threads + Wait + Sync, R: Source, W: Sink, E: Sink>(
     rt: &T,
     alloc: Global,

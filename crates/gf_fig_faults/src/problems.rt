@@ -69,8 +69,8 @@ pub(crate) fn explained(object: &[u8], fault: FigFault) -> Option<Explanation> {
     Some(Explanation { seen, problems })
 }
 
-/// What is wrong with an object of this kind. With a fault of its style comes what is wrong with the
-/// rest of the style.
+/// What is wrong with an object of this kind. With a fault of its style comes what is wrong with
+/// the rest of the style.
 fn problems_of(object: &[u8], kind: Kind, fault: FigFault) -> [Option<Problem>; 4] {
     match fault {
         FigFault::Outline | FigFault::NoColour | FigFault::Depth | FigFault::Fill => [

@@ -19,8 +19,8 @@ use std::alloc::Global;
 /// The greatest number of faults that are told.
 const MOST_TOLD: u32 = 64;
 
-/// The faults of a FIG text, of which the first one refuses it. Each further one is the first of the
-/// text in which comments stand for the objects that were told. At most 64 are told, and none
+/// The faults of a FIG text, of which the first one refuses it. Each further one is the first of
+/// the text in which comments stand for the objects that were told. At most 64 are told, and none
 /// behind one of the header or of a colour. The time is at most that of 64 readings of the text.
 pub fn drawing_faults(alloc: Global, text: &[u8]) -> Result<DrawingFaults, OutOfMemory>
     ensures faults { IfOk result (AreFaults most_told None text.now) }

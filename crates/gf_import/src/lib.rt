@@ -4,7 +4,8 @@
 //!   [`ImportError`] tells why not.
 //! - [`creations`]: a creation for each figure of a drawing; [`CreationError`] tells why there are
 //!   none, and [`FigureFault`] which limit a figure breaks.
-//! - [`start_of`]: what the object of a figure begins with; [`form_of`] and [`place_of`] give its parts.
+//! - [`start_of`]: what the object of a figure begins with; [`form_of`] and [`place_of`] give its
+//!   parts.
 //! - [`the_creations_paint_the_drawing`], [`what_is_imported_paints_the_drawing`]: the laws of the
 //!   history that a site makes of the creations.
 //! - [`what_can_be_imported_is_not_refused`]: the law that a success rules a refusal out.

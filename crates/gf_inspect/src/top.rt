@@ -33,8 +33,8 @@ pub fn top_at(
     Ok(first_name(ranked, point))
 }
 
-/// The name that [`top_at`] gives, of a history with its versions. A hidden object costs a pass over
-/// its operations, however many versions it has.
+/// The name that [`top_at`] gives, of a history with its versions. A hidden object costs a pass
+/// over its operations, however many versions it has.
 pub fn top_at_with(
     alloc: Global,
     versions: &VersionedHistory<'_>,

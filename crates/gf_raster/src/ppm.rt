@@ -23,8 +23,8 @@ use std::alloc::{AllocError, Global};
 use std::thread::Threads;
 
 /// Writes the picture of a window of a drawing as raw PPM, and flushes. The header comes first, and
-/// then one round after another, each painted as [`paint`](crate::paint) does. At most a round is in
-/// memory: two bands of 64 rows for each worker. Of a band that all workers share, its bytes are
+/// then one round after another, each painted as [`paint`](crate::paint) does. At most a round is
+/// in memory: two bands of 64 rows for each worker. Of a band that all workers share, its bytes are
 /// there twice, and what it shows.
 pub fn ppm_to<S: Shape + Sync, G: Gate + Sync, R: Threads + Sync, W: Sink>(
     rt: &R,

@@ -30,8 +30,8 @@ pub(crate) struct Block {
     pub behind: TextLines,
 }
 
-/// Reads a block of lines, or all where they are fewer. At most `workers` threads read them, and one
-/// thread reads a few lines.
+/// Reads a block of lines, or all where they are fewer. At most `workers` threads read them, and
+/// one thread reads a few lines.
 pub(crate) fn read_block<R: Threads + Sync>(
     rt: &R,
     alloc: Global,

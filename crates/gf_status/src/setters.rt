@@ -196,8 +196,8 @@ fn beside(
 }
 
 /// The last hidings among these setters of `Shown` with which the operation at this position does
-/// not conflict. The setters in `last` come before none of the others: where the operation conflicts
-/// with none of these last setters, no other setter is asked.
+/// not conflict. The setters in `last` come before none of the others: where the operation
+/// conflicts with none of these last setters, no other setter is asked.
 fn hidings_beside(
     alloc: Global,
     history: &History,

@@ -92,7 +92,8 @@ impl GroupTable {
         }
     }
 
-    /// How many versions an object has that the history made; 1,001 where there are more than 1,000.
+    /// How many versions an object has that the history made; 1,001 where there are more than
+    /// 1,000.
     pub(crate) fn count(&self, history: &History, object: ObjectId) -> usize
         requires stands { StandsFor history.now.ops self.now }
         requires made { IsMade history.now.ops object }

@@ -4,8 +4,8 @@ use gf_fig_faults::Seen;
 use gf_import::FigureFault;
 use std::fmt;
 
-/// A figure that breaks a limit of operations. Its object, counted from 1 with the colours, begins on
-/// the FIG text's line of this number, counted from 1.
+/// A figure that breaks a limit of operations. Its object, counted from 1 with the colours, begins
+/// on the FIG text's line of this number, counted from 1.
 #[derive(Clone, Copy, Debug, PartialEq, Eq)]
 pub struct BrokenLimit {
     pub line: u64,

@@ -3,7 +3,8 @@
 //!
 //! - [`take_run`]: reads both, and writes the new operations.
 //! - [`Taken`]: what is told of them.
-//! - [`TakeRunError`]: why nothing is taken; [`BrokenLimit`]: the figure that no operation can make.
+//! - [`TakeRunError`]: why nothing is taken; [`BrokenLimit`]: the figure that no operation can
+//!   make.
 //! - [`what_a_take_writes_joins_what_it_read`]: the law of what a take read and wrote.
 #![tactic(auto)]
 
