@@ -12,8 +12,8 @@ use Rattle.gf_command.specs.CommandLine.{program}
 use Rattle.gf_command.specs.Spelling.{SpellsId, SpellsPoint}
 use Rattle.gf_shape.specs.declared.point.Point.{Point}
 use Rattle.gf_ops.specs.declared.op.OpId.{OpId}
+use Rattle.gf_scanline.specs.Frames.{Sides}
 use Rattle.gf_scanline.specs.Windows.{View}
-use Rattle.gf_fit.specs.Frames.{Sides}
 use Rattle.gf_studio.specs.declared.inspecting.Query.{Query}
 use Rattle.gf_studio.specs.declared.inspecting.Query.TheVariants.{Object, At}
 use Rattle.gf_command.specs.declared.runs.Asked.{Asked}

@@ -2,12 +2,12 @@
 use Rattle.std.specs.Prelude.{◌≡◌, ◌⊎◌, ℕ, true, List, Option, option_map}
 use Rattle.gf_shape.specs.declared.colour.Rgb.{Rgb}
 use Rattle.gf_shape.specs.declared.point.Point.{Point}
+use Rattle.gf_scanline.specs.Frames.{Sides}
 use Rattle.gf_scanline.specs.Windows.{View}
 use Rattle.gf_studio.specs.FigRun.{Exports, IsFigOf, IsNamedOf, Writes, WritesNamed}
 use Rattle.gf_studio.specs.InspectRun.{AnswersQuery, WritesAnswer}
 use Rattle.gf_studio.specs.PaintRun.{IsDenoted, IsMeant, IsPicture, WritesBands, WritesPicture}
 use Rattle.gf_studio.specs.RunAnswers.{WritesPrefix}
-use Rattle.gf_fit.specs.Frames.{Sides}
 use Rattle.gf_fit.specs.FittedRun.{FitsLines, FitsText, IsFittedPicture, WritesFittedBands}
 use Rattle.gf_import.specs.ImportRun.{Imports, WritesImport}
 use Rattle.gf_edit.specs.declared.made.Made.{Made}

@@ -13,6 +13,7 @@ use Rattle.gf_figures.specs.Outlined.{figure_outlined, outlined}
 use Rattle.gf_fig_read.specs.Objects.{Drawn}
 use Rattle.gf_fig_read.proofs.GrammarLemmas.{one_drawing}
 use Rattle.gf_replay.specs.Denoting.{HaveSameOperations}
+use Rattle.gf_scanline.specs.Frames.{Sides}
 use Rattle.gf_scanline.specs.Windows.{View}
 use Rattle.gf_studio.specs.FigRun.{Draws, IsFigOf}
 use Rattle.gf_studio.specs.PaintRun.{PictureOf, RepaintOf}
@@ -20,7 +21,6 @@ use Rattle.gf_studio.proofs.PaintingLemmas.{text_repaints}
 use Rattle.gf_studio.proofs.SameLemmas.{draw_alike, histories_draw, paint_alike}
 use Rattle.gf_fit.specs.FittedRun.{FitsLines, FitsText}
 use Rattle.gf_fit.specs.FittedWindow.{IsFitted, held}
-use Rattle.gf_fit.specs.Frames.{Sides}
 use Rattle.gf_fit.proofs.FittingLemmas.{one_window}
 
 -- w fits a drawing of shapes, or of outlines

@@ -9,11 +9,12 @@ use Rattle.std.proofs.lemmas.Int.{clamps, ints}
 use Rattle.gf_shape.specs.declared.bounds.Bounds.{Bounds}
 use Rattle.gf_shape.specs.declared.point.Point.{Point}
 use Rattle.gf_shape.specs.ShapeLaws.{IsBounds}
+use Rattle.gf_scanline.specs.Frames.{Sides}
 use Rattle.gf_scanline.specs.Windows.{View, is_corner, is_step}
 use Rattle.gf_fit.specs.FittedWindow.{AreBounds, Covers, IsCentral, IsFitted, IsFittedStep}
 use Rattle.gf_fit.specs.FittedWindow.{IsNear, IsOver, IsWide, IsWindowOver, ShowsAll, clamped}
 use Rattle.gf_fit.specs.FittedWindow.{first, is_wide_enough, reaches}
-use Rattle.gf_fit.specs.Frames.{Sides, inner, margin}
+use Rattle.gf_fit.specs.Margins.{inner, margin}
 use Rattle.gf_fit.proofs.BoundsLemmas.{in_order, one_bounds}
 
 -- from 1 to 9,999, the steps from s on are those that the test takes

@@ -10,13 +10,13 @@ use Rattle.gf_figures.specs.DrawingState.{DrawingState}
 use Rattle.gf_streams.specs.declared.sink.Sink.{Ghosts as Sink}
 use Rattle.gf_fig_read.specs.FigGrammar.{Reads}
 use Rattle.gf_fig_read.specs.Objects.{Drawn}
+use Rattle.gf_scanline.specs.Frames.{Sides}
 use Rattle.gf_scanline.specs.Windows.{View}
 use Rattle.gf_studio.specs.declared.studio_error.StudioError.{StudioError}
 use Rattle.gf_studio.specs.FigRun.{Draws}
 use Rattle.gf_studio.specs.PaintRun.{IsPicture, WritesBands}
 use Rattle.gf_studio.specs.RunAnswers.{LeavesPicture}
 use Rattle.gf_fit.specs.FittedWindow.{IsFitted, held}
-use Rattle.gf_fit.specs.Frames.{Sides}
 
 -- w is the window that fits the drawing of the history that the bytes denote
 pub record FitsLines (bytes : List ℕ) (frame : Sides) (w : View) : Type 0 where

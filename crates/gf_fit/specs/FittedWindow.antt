@@ -8,8 +8,9 @@ use Rattle.gf_shape.specs.declared.bounds.Bounds.{Bounds}
 use Rattle.gf_shape.specs.declared.point.Point.{Point}
 use Rattle.gf_shape.specs.ShapeLaws.{IsBounds}
 use Rattle.gf_figures.specs.declared.figure.Figure.{Figure}
+use Rattle.gf_scanline.specs.Frames.{Sides}
 use Rattle.gf_scanline.specs.Windows.{View, column, is_corner, is_step, line}
-use Rattle.gf_fit.specs.Frames.{Sides, inner, margin}
+use Rattle.gf_fit.specs.Margins.{inner, margin}
 
 -- some figure holds p
 abbrev pub held : {S : Type 0} → (S → Point → Bool) → List (Figure S) → Point → Bool

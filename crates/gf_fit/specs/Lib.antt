@@ -1,4 +1,4 @@
-pub mod Frames
+pub mod Margins
 pub mod FittedWindow
 pub mod FittedRun
 pub mod JoinedBounds

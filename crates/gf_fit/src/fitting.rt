@@ -5,15 +5,15 @@ ghost use Rattle.std.specs.Prelude.{◌≤ℤ◌, ◌+ℤ◌, ◌-ℤ◌, pos};
 ghost use Rattle.std.specs.Int.{int_div_euclid};
 ghost use Rattle.gf_shape.specs.declared.bounds.Bounds.{Bounds};
 ghost use Rattle.gf_shape.specs.ShapeLaws.{IsBounds};
-ghost use Rattle.gf_scanline.specs.Windows.{View, is_corner, is_side, is_step};
+ghost use Rattle.gf_scanline.specs.Frames.{Sides, is_side};
+ghost use Rattle.gf_scanline.specs.Windows.{View, is_corner, is_step};
 ghost use Rattle.gf_fit.specs.FittedWindow.{Covers, IsCentral, IsFitted, IsNear, IsOver};
 ghost use Rattle.gf_fit.specs.FittedWindow.{IsWide, ShowsAll, clamped, first, held, reaches};
-ghost use Rattle.gf_fit.specs.Frames.{Sides, inner};
+ghost use Rattle.gf_fit.specs.Margins.{inner};
 
-use crate::Frame;
 use crate::bounding::bounds_of;
 use gf_figures::Drawing;
-use gf_scanline::Window;
+use gf_scanline::{Frame, Window};
 use gf_shape::{Bounds, Range, Shape};
 
 /// The window of a frame that fits a drawing. A twentieth of the columns, and of the rows, is the

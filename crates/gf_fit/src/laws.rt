@@ -2,13 +2,13 @@
 
 ghost use Rattle.std.specs.Prelude.{◌≡◌, ℕ, Bool, List};
 ghost use Rattle.gf_shape.specs.declared.point.Point.{Point};
+ghost use Rattle.gf_scanline.specs.Frames.{Sides};
 ghost use Rattle.gf_scanline.specs.Windows.{View};
 ghost use Rattle.gf_replay.specs.Denoting.{HaveSameOperations};
 ghost use Rattle.gf_studio.specs.FigRun.{IsFigOf};
 ghost use Rattle.gf_studio.specs.PaintRun.{PictureOf, RepaintOf};
 ghost use Rattle.gf_fit.specs.FittedRun.{FitsLines, FitsText};
 ghost use Rattle.gf_fit.specs.FittedWindow.{IsFitted};
-ghost use Rattle.gf_fit.specs.Frames.{Sides};
 
 /// One window of a frame fits the points that are held, and no other.
 pub fn one_window_fits()

@@ -8,8 +8,9 @@ ghost use Rattle.gf_studio.specs.RefusedRuns.{RefusesFig, RefusesLines};
 ghost use Rattle.gf_studio.specs.RunAnswers.{ReadsInput};
 ghost use Rattle.gf_fit.specs.FittedRun.{FitsLines, FitsText, PaintsFitted};
 
-use crate::{Frame, fitted_window};
+use crate::fitted_window;
 use gf_raster::ppm_to;
+use gf_scanline::Frame;
 use gf_streams::{Sink, Source};
 use gf_studio::{Gate, StudioError, Window, drawing_of_fig, drawing_of_lines};
 use std::alloc::Global;

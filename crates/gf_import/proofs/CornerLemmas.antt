@@ -1,9 +1,8 @@
 -- The chain round the corners of a box, in any order, holds what the box holds.
-use Rattle.std.proofs.Common.{◌≡◌, ℕ, Bool, true, ◌&&◌, ◌||◌, not, List, [], ◌∷◌, sym, ap, ◌∙◌, inl}
-use Rattle.std.proofs.Common.{inr, arith}
+use Rattle.std.proofs.Common.{◌≡◌, true, ◌||◌, ap, ◌∙◌, inl, inr, arith}
 use Rattle.std.specs.Int.{int_min}
 use Rattle.std.specs.Ordering.{int_eq}
-use Rattle.std.specs.Prelude.{◌⊎◌, ℤ, pos, ◌+ℤ◌, ◌-ℤ◌, ◌≤ℤ◌, ◌<ℤ◌, int_le, unsigned_abs}
+use Rattle.std.specs.Prelude.{◌⊎◌, ℤ, pos, ◌+ℤ◌, ◌-ℤ◌, unsigned_abs}
 use Rattle.std.proofs.lemmas.Bool.{and_parts, cases_Bool}
 use Rattle.std.proofs.lemmas.Bool.Decides.{Decides-int_eq}
 use Rattle.std.proofs.lemmas.Int.{ints, by_lt_z}
@@ -13,22 +12,17 @@ use Rattle.gf_shape.specs.FigureMeaning.{chain_holds}
 use Rattle.gf_shape.specs.ShapeMeaning.{rect_holds}
 use Rattle.gf_shape.specs.Laws.BoxOutline.{chain_holds-corners_again}
 use Rattle.gf_import.specs.Boxes.{are_between, are_corners, are_opposite, is_at, least_corner}
-use Rattle.gf_import.proofs.BoxLemmas.{at, ring-left_top-right_top, ring-right_top-right_bottom}
-use Rattle.gf_import.proofs.BoxLemmas.{ring-right_bottom-left_bottom, ring-left_bottom-left_top}
-use Rattle.gf_import.proofs.BoxLemmas.{ring-left_top-left_bottom, ring-right_top-left_top}
-use Rattle.gf_import.proofs.BoxLemmas.{ring-right_bottom-right_top, ring-left_bottom-right_bottom}
+use Rattle.gf_import.proofs.RingLemmas.{ring, ring_turned, ring_back}
 
--- p lies between left and right and between top and bottom
-abbrev is_inside : ℤ → ℤ → ℤ → ℤ → Point → Bool
-is_inside left right top bottom p = ((int_le left p.x && int_le p.x right) && int_le top p.y)
-    && int_le p.y bottom
+-- a point of these coordinates
+abbrev at : ℤ → ℤ → Point
+at x y = record { x = x; y = y }
 
 -- the box of the opposite corners a and c
 abbrev pub area_of : Point → Point → Area
 area_of a c = record {
   low = least_corner a c;
-  width = unsigned_abs
-      (c.x -ℤ a.x);
+  width = unsigned_abs (c.x -ℤ a.x);
   height = unsigned_abs (c.y -ℤ a.y);
 }
 
@@ -36,38 +30,11 @@ area_of a c = record {
 record IsSide (m n low high : ℤ) : Type 0 where
   pub first : int_min m n ≡ low
   pub last : int_min m n +ℤ pos (unsigned_abs (n -ℤ m)) ≡ high
-  pub rises : low ≤ℤ high
 
-up : (m n : ℤ) → m <ℤ n → IsSide m n m n
-up m n h = record {
-  first = grind (arith, ints);
-  last = grind (arith, ints);
-  rises = omega
-      (arith, ints);
-}
-
-down : (m n : ℤ) → n <ℤ m → IsSide m n n m
-down m n h = record {
-  first = grind (arith, ints);
-  last = grind (arith, ints);
-  rises = omega
-      (arith, ints);
-}
-
-apart : (m n : ℤ) → not (int_eq m n) ≡ true → (m <ℤ n) ⊎ (n <ℤ m)
-apart m n e = by_lt_z m n (λ h. inl h) (λ h. by_lt_z n m (λ k. inr k)
-    (λ k. absurd (grind (arith, ints))))
-
-from_low_to_high : (low : ℤ) (size : ℕ) → low ≤ℤ (low +ℤ pos size)
-from_low_to_high low size = omega (arith, ints)
-
--- a box holds what lies along both sides
-rect_holds-inside : (a : Area) (p : Point) → rect_holds a p
-    ≡ is_inside a.low.x (a.low.x +ℤ pos a.width) a.low.y (a.low.y +ℤ pos a.height) p
-rect_holds-inside a p =
-    sym (chain_holds-corners_again a p)
-    ∙ ring-left_top-right_top a.low.x (a.low.x +ℤ pos a.width) a.low.y (a.low.y +ℤ pos a.height) p
-    (from_low_to_high a.low.x a.width) (from_low_to_high a.low.y a.height)
+side_of : (m n : ℤ) → IsSide m n m n ⊎ IsSide m n n m
+side_of m n = by_lt_z m n
+    (λ h. inl (record { first = grind (arith, ints); last = grind (arith, ints) }))
+    (λ h. inr (record { first = grind (arith, ints); last = grind (arith, ints) }))
 
 point_told : (p : Point) (x y : ℤ) → is_at p x y ≡ true → p ≡ at x y
 unfolding is_at
@@ -78,81 +45,45 @@ point_told p x y t =
     λ i. record { x = e i; y = f i }
 
 module _ (a c p : Point) where
-  -- a ring that holds what lies along both sides holds what the box of a and c holds
-  as_box : (ps : List Point) (left right top bottom : ℤ) → IsSide a.x c.x left right
-      → IsSide a.y c.y top bottom →
-      (left ≤ℤ right → top ≤ℤ bottom → chain_holds ps p ≡ is_inside left right top bottom p)
-      → chain_holds ps p ≡ rect_holds (area_of a c) p
-  as_box ps left right top bottom x y ring =
-      let inside : rect_holds (area_of a c) p ≡ is_inside left right top bottom p =
-      rect_holds-inside (area_of a c) p ∙ (λ i. is_inside (x.first i) (x.last i) (y.first i)
-      (y.last i) p) in
-      ring x.rises y.rises ∙ sym inside
-
-  -- the chain from a round b, c and d
-  abbrev ring : Point → Point → List Point
-  ring b d = a ∷ b ∷ c ∷ d ∷ a ∷ []
+  -- the ring clockwise from the least corner of a box
+  box_ring : (left right top bottom : ℤ) → IsSide a.x c.x left right
+      → IsSide a.y c.y top bottom
+      → chain_holds (ring (at left top) (at right top) (at right bottom) (at left bottom)) p
+      ≡ rect_holds (area_of a c) p
+  box_ring left right top bottom x y = rw (← x.first, ← x.last, ← y.first, ← y.last)
+      (chain_holds-corners_again (area_of a c) p)
 
   -- the ring that goes level from a
-  level : are_opposite a c ≡ true → chain_holds (ring (at c.x a.y) (at a.x c.y)) p
-      ≡ rect_holds (area_of a c) p
-  unfolding are_opposite
-  level t =
-      let both = and_parts (not (int_eq a.x c.x)) (not (int_eq a.y c.y)) t in
-      elim (apart a.x c.x both.0) [
-        | inl r ↦ elim (apart a.y c.y both.1) [
-          | inl s ↦ as_box (ring (at c.x a.y) (at a.x c.y)) a.x c.x a.y c.y (up a.x c.x r)
-              (up a.y c.y s) (ring-left_top-right_top a.x c.x a.y c.y p)
-          | inr s ↦ as_box (ring (at c.x a.y) (at a.x c.y)) a.x c.x c.y a.y (up a.x c.x r)
-              (down a.y c.y s) (ring-left_bottom-right_bottom a.x c.x c.y a.y p)
-        ]
-        | inr r ↦ elim (apart a.y c.y both.1) [
-          | inl s ↦ as_box (ring (at c.x a.y) (at a.x c.y)) c.x a.x a.y c.y (down a.x c.x r)
-              (up a.y c.y s) (ring-right_top-left_top c.x a.x a.y c.y p)
-          | inr s ↦ as_box (ring (at c.x a.y) (at a.x c.y)) c.x a.x c.y a.y (down a.x c.x r)
-              (down a.y c.y s) (ring-right_bottom-left_bottom c.x a.x c.y a.y p)
-        ]
-      ]
+  level : chain_holds (ring a (at c.x a.y) c (at a.x c.y)) p ≡ rect_holds (area_of a c) p
+  level = elim (side_of a.x c.x) [
+    | inl x ↦ elim (side_of a.y c.y) [
+      | inl y ↦ box_ring a.x c.x a.y c.y x y
+      | inr y ↦ ring_back a (at c.x a.y) c (at a.x c.y) p
+          ∙ (ring_turned (at c.x a.y) a (at a.x c.y) c p
+          ∙ (ring_turned a (at a.x c.y) c (at c.x a.y) p ∙ box_ring a.x c.x c.y a.y x y))
+    ]
+    | inr x ↦ elim (side_of a.y c.y) [
+      | inl y ↦ ring_back a (at c.x a.y) c (at a.x c.y) p ∙ box_ring c.x a.x a.y c.y x y
+      | inr y ↦ ring_turned a (at c.x a.y) c (at a.x c.y) p
+          ∙ (ring_turned (at c.x a.y) c (at a.x c.y) a p ∙ box_ring c.x a.x c.y a.y x y)
+    ]
+  ]
 
-  -- the ring that goes upright from a
-  upright : are_opposite a c ≡ true → chain_holds (ring (at a.x c.y) (at c.x a.y)) p
-      ≡ rect_holds (area_of a c) p
-  unfolding are_opposite
-  upright t =
-      let both = and_parts (not (int_eq a.x c.x)) (not (int_eq a.y c.y)) t in
-      elim (apart a.x c.x both.0) [
-        | inl r ↦ elim (apart a.y c.y both.1) [
-          | inl s ↦ as_box (ring (at a.x c.y) (at c.x a.y)) a.x c.x a.y c.y (up a.x c.x r)
-              (up a.y c.y s) (ring-left_top-left_bottom a.x c.x a.y c.y p)
-          | inr s ↦ as_box (ring (at a.x c.y) (at c.x a.y)) a.x c.x c.y a.y (up a.x c.x r)
-              (down a.y c.y s) (ring-left_bottom-left_top a.x c.x c.y a.y p)
-        ]
-        | inr r ↦ elim (apart a.y c.y both.1) [
-          | inl s ↦ as_box (ring (at a.x c.y) (at c.x a.y)) c.x a.x a.y c.y (down a.x c.x r)
-              (up a.y c.y s) (ring-right_top-right_bottom c.x a.x a.y c.y p)
-          | inr s ↦ as_box (ring (at a.x c.y) (at c.x a.y)) c.x a.x c.y a.y (down a.x c.x r)
-              (down a.y c.y s) (ring-right_bottom-right_top c.x a.x c.y a.y p)
-        ]
-      ]
+  between : (b d : Point) → are_between a b c d ≡ true
+      → chain_holds (ring a b c d) p ≡ rect_holds (area_of a c) p
+  between b d t =
+      let two = and_parts (is_at b c.x a.y) (is_at d a.x c.y) t in
+      let e = point_told b c.x a.y two.0 in
+      let f = point_told d a.x c.y two.1 in
+      ap (λ q. chain_holds (ring a q c d) p) e
+      ∙ (ap (λ q. chain_holds (ring a (at c.x a.y) c q) p) f ∙ level)
 
 pub corners_hold : (a b c d p : Point) → are_corners a b c d ≡ true
-    → chain_holds (a ∷ b ∷ c ∷ d ∷ a ∷ []) p ≡ rect_holds (area_of a c) p
+    → chain_holds (ring a b c d) p ≡ rect_holds (area_of a c) p
 corners_hold a b c d p t =
     let parts = and_parts (are_opposite a c) (are_between a b c d || are_between a d c b) t in
     elim (cases_Bool (are_between a b c d)) [
-      | inl k ↦
-          let two = and_parts (is_at b c.x a.y) (is_at d a.x c.y) k in
-          let e = point_told b c.x a.y two.0 in
-          let f = point_told d a.x c.y two.1 in
-          ap (λ (q : Point). chain_holds (a ∷ q ∷ c ∷ d ∷ a ∷ []) p) e
-          ∙ (ap (λ (q : Point). chain_holds (a ∷ at c.x a.y ∷ c ∷ q ∷ a ∷ []) p) f
-          ∙ level a c p parts.0)
-      | inr k ↦
-          let other : are_between a d c b ≡ true = rw k at parts.1 in
-          let two = and_parts (is_at d c.x a.y) (is_at b a.x c.y) other in
-          let e = point_told b a.x c.y two.1 in
-          let f = point_told d c.x a.y two.0 in
-          ap (λ (q : Point). chain_holds (a ∷ q ∷ c ∷ d ∷ a ∷ []) p) e
-          ∙ (ap (λ (q : Point). chain_holds (a ∷ at a.x c.y ∷ c ∷ q ∷ a ∷ []) p) f
-          ∙ upright a c p parts.0)
+      | inl k ↦ between a c p b d k
+      | inr k ↦ ring_back a b c d p ∙ (ring_turned b a d c p
+          ∙ between a c p d b (rw k at parts.1))
     ]

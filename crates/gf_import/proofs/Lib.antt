@@ -1,6 +1,6 @@
 pub mod AloneLemmas
 pub mod OrderLemmas
-pub mod BoxLemmas
+pub mod RingLemmas
 pub mod CornerLemmas
 pub mod OutlineLemmas
 pub mod FrontLemmas

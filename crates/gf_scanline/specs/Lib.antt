@@ -13,4 +13,5 @@ pub mod Columns
 pub mod Free
 pub mod Segments
 pub mod Strokes
+pub mod Frames
 pub mod Windows

@@ -2,6 +2,7 @@
 use Rattle.std.specs.Prelude.{ℕ, ◌*◌, Bool, ◌&&◌, nat_le, ℤ, pos, negsuc, ◌+ℤ◌}
 use Rattle.std.specs.Prelude.{int_le}
 use Rattle.gf_shape.specs.declared.point.Point.{Point}
+use Rattle.gf_scanline.specs.Frames.{is_side}
 
 -- the part of the plane that a picture shows: first point, step between points, number of columns
 -- and rows
@@ -15,10 +16,6 @@ pub record View : Type 0 where
 -- n lies between -2,000,000 and 2,000,000
 unfoldable pub is_corner : ℤ → Bool
 is_corner n = int_le (negsuc 1999999) n && int_le n (pos 2000000)
-
--- n is 1 to 4,096
-abbrev pub is_side : ℕ → Bool
-is_side n = nat_le 1 n && nat_le n 4096
 
 -- n is 1 to 10,000
 abbrev pub is_step : ℕ → Bool

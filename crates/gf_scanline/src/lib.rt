@@ -1,5 +1,6 @@
 //! Scan lines: what a drawing shows in the rows of a window, painted from the front to the back.
 //!
+//! - [`Frame`]: how many columns and rows a picture has.
 //! - [`Window`]: which points a picture shows, and which of its columns a span of a row covers.
 //! - [`Band`]: some rows of a window.
 //! - [`Layers`]: the layers of a drawing; [`Part`]: what a band has of them.
@@ -17,6 +18,7 @@ mod covered;
 mod edge;
 mod edge_row;
 mod edges;
+mod frame;
 mod free_columns;
 mod layer;
 mod layers;
@@ -36,6 +38,7 @@ pub use columns::Columns;
 pub use edge::Edge;
 pub use edge_row::EdgeRow;
 pub use edges::Edges;
+pub use frame::Frame;
 pub use layer::Layer;
 pub use layers::Layers;
 pub use part::Part;

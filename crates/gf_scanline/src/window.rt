@@ -1,8 +1,9 @@
 //! Windows.
 
 ghost use Rattle.std.specs.Prelude.{◌≡◌, ◌↔◌, IsTrue, IsOk, IfOk, ◌<◌, ◌≤◌, ◌*◌, ◌+ℤ◌, pos};
-ghost use Rattle.gf_scanline.specs.Windows.{is_corner, is_side, is_step, is_view, line};
+ghost use Rattle.gf_scanline.specs.Windows.{is_corner, is_step, is_view, line};
 
+use crate::Frame;
 use gf_shape::Range;
 use std::marker::Model;
 
@@ -13,8 +14,7 @@ pub struct Window {
     x: i32,
     y: i32,
     step: u32,
-    width: u32,
-    height: u32,
+    frame: Frame,
 }
 
 impl Model for Window {
@@ -27,19 +27,18 @@ impl Model for Window {
       x = w.x;
       y = w.y;
       step = w.step;
-      width = w.width;
-      height = w.height;
+      width = w.frame.width;
+      height = w.frame.height;
     } };
 
     ghost invariant = { λ w. IsTrue (is_view (record
-        { x = w.x; y = w.y; step = w.step; width = w.width; height = w.height })) };
+        { x = w.x; y = w.y; step = w.step; width = w.frame.width; height = w.frame.height })) };
 
     ghost inverse = { λ v. record {
       x = v.x;
       y = v.y;
       step = v.step;
-      width = v.width;
-      height = v.height;
+      frame = record { width = v.width; height = v.height };
     } };
 }
 
@@ -52,14 +51,9 @@ impl Window {
         ensures same { IfOk result (λ w. w
             ≡ record { x = x; y = y; step = step; width = width; height = height }) }
     {
-        if is_corner(x) && is_corner(y) && is_step(step) && is_side(width) && is_side(height) {
-            Ok(Window {
-                x,
-                y,
-                step,
-                width,
-                height,
-            })
+        let frame = Frame::new(width, height)?;
+        if is_corner(x) && is_corner(y) && is_step(step) {
+            Ok(Window { x, y, step, frame })
         } else {
             Err(Range)
         }
@@ -85,7 +79,7 @@ impl Window {
         ensures width { result ≡ self.now.width }
         ensures within { (1 ≤ result) × (result ≤ 4096) }
     {
-        self.width
+        self.frame.width()
     }
 
     /// How many rows the window has, 1 to 4,096.
@@ -93,7 +87,7 @@ impl Window {
         ensures height { result ≡ self.now.height }
         ensures within { (1 ≤ result) × (result ≤ 4096) }
     {
-        self.height
+        self.frame.height()
     }
 
     /// The y of row `j`.
@@ -110,12 +104,6 @@ fn is_corner(n: i32) -> bool
     ensures { result ≡ is_corner n }
 {
     -2_000_000 <= n && n <= 2_000_000
-}
-
-fn is_side(n: u32) -> bool
-    ensures { result ≡ is_side n }
-{
-    1 <= n && n <= 4_096
 }
 
 fn is_step(n: u32) -> bool

@@ -1,8 +1,7 @@
 //! Frames.
 
 ghost use Rattle.std.specs.Prelude.{◌≡◌, ◌↔◌, ◌≤◌, IsTrue, IsOk, IfOk};
-ghost use Rattle.gf_scanline.specs.Windows.{is_side};
-ghost use Rattle.gf_fit.specs.Frames.{is_frame};
+ghost use Rattle.gf_scanline.specs.Frames.{is_frame, is_side};
 
 use gf_shape::Range;
 use std::marker::Model;
@@ -16,7 +15,7 @@ pub struct Frame {
 
 impl Model for Frame {
     ghost use Rattle.std.specs.Prelude.{IsTrue};
-    ghost use Rattle.gf_fit.specs.Frames.{Sides, is_frame};
+    ghost use Rattle.gf_scanline.specs.Frames.{Sides, is_frame};
 
     ghost Value = { Sides };
 
