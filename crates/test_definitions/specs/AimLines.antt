@@ -1,6 +1,6 @@
 -- Worked examples of lines that aim at operations, checked by computing.
-use Rattle.std.specs.Prelude.{◌≡◌, ℕ, List, [], ◌∷◌, ◌++◌, map, replicate, Ok, Err}
-use Rattle.std.specs.Prelude.{refl, codes}
+use Rattle.std.specs.Prelude.{◌≡◌, ℕ, List, [], ◌∷◌, ◌++◌, map, replicate}
+use Rattle.std.specs.Prelude.{Ok, Err, refl, codes}
 use Rattle.std.specs.Str.{is_utf8, chars}
 use Rattle.std.specs.Fmt.{digits}
 use Rattle.gf_ops.specs.declared.op.Op.{Op}
@@ -43,8 +43,9 @@ aim_of_site_nine = refl
 
 -- falling ids, also from site 9; an id twice, and one that stands alone
 pub of_another_form : map denoted
-    (aimed (codes "[[2,1],[1,1]]") ∷ aimed (codes "[[9,1],[1,1]]") ∷ aimed (codes "[[1,1],[1,1]]")
-    ∷ aimed (codes "[1,1]") ∷ []) ≡ replicate 4 (Err fault.Field)
+    (aimed (codes "[[2,1],[1,1]]") ∷ aimed (codes "[[9,1],[1,1]]")
+    ∷ aimed (codes "[[1,1],[1,1]]") ∷ aimed (codes "[1,1]") ∷ [])
+    ≡ replicate 4 (Err fault.Field)
 unfolding serde_json_on_literals digits is_utf8 chars
 of_another_form = refl
 

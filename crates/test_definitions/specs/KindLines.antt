@@ -1,6 +1,6 @@
 -- Worked examples of lines that create circles and polygons, checked by computing.
-use Rattle.std.specs.Prelude.{◌≡◌, ℕ, List, [], ◌∷◌, ◌++◌, map, replicate, Ok, Err}
-use Rattle.std.specs.Prelude.{refl, codes, pos, negsuc}
+use Rattle.std.specs.Prelude.{◌≡◌, ℕ, List, [], ◌∷◌, ◌++◌, map, replicate}
+use Rattle.std.specs.Prelude.{Ok, Err, refl, codes, pos, negsuc}
 use Rattle.std.specs.Str.{is_utf8, chars}
 use Rattle.std.specs.Fmt.{digits}
 use Rattle.gf_ops.specs.declared.change.Form.TheVariants.{Polygon, Circle, Ellipse}
@@ -24,7 +24,8 @@ red_circle_read = refl
 -- the two numbers of a circle are its radius
 pub unequal_circles : map denoted
     (shaped (codes "circle") (codes "\"size\":[7,8]")
-    ∷ shaped (codes "circle") (codes "\"size\":[7,1000001]") ∷ []) ≡ replicate 2 (Err fault.Field)
+    ∷ shaped (codes "circle") (codes "\"size\":[7,1000001]") ∷ [])
+    ≡ replicate 2 (Err fault.Field)
 unfolding serde_json_on_literals digits is_utf8 chars
 unequal_circles = refl
 

@@ -49,7 +49,8 @@ unfolding serde_json_on_literals digits is_utf8 chars
 later_await_read = refl
 
 pub no_operation : denoted (codes "{\"site\":1,\"do\":\"create\",\"kind\":\"box\",\"place\":[0,0],"
-    ++ codes "\"size\":[10,10],\"colour\":\"ff0000\",\"layer\":0,\"shown\":true}") ≡ Err fault.Field
+    ++ codes "\"size\":[10,10],\"colour\":\"ff0000\",\"layer\":0,\"shown\":true}")
+    ≡ Err fault.Field
 unfolding serde_json_on_literals digits is_utf8 chars
 no_operation = refl
 

@@ -1,6 +1,7 @@
--- Worked examples of the shape meaning and the figure meaning, checked by computing: what is answered
--- of points in turn.
-use Rattle.std.specs.Prelude.{◌≡◌, refl, true, false, List, [], ◌∷◌, pos, negsuc, ℤ, map}
+-- Worked examples of the shape meaning and the figure meaning, checked by computing: what is
+-- answered of points in turn.
+use Rattle.std.specs.Prelude.{◌≡◌, refl, true, false, List, [], ◌∷◌, map, ℤ}
+use Rattle.std.specs.Prelude.{pos, negsuc}
 use Rattle.gf_shape.specs.declared.point.Point.{Point}
 use Rattle.gf_shape.specs.Edges.{side, is_between, is_on_line}
 use Rattle.gf_shape.specs.ShapeMeaning.{box_holds, circle_holds, ellipse_holds, polygon_holds}
