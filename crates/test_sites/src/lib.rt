@@ -1,13 +1,18 @@
-//! Worked examples of sites and of the world, by public calls alone, as tables of commands with
-//! their answers.
+//! Worked examples of sites and their links, by public calls alone.
+//!
+//! - `sites`, `worlds`: commands with their answers. `tables` reads them, and
+//!   `site_commands` and `world_commands` act;
+//! - `links`: what one link carries.
 #![tactic(auto)]
 
 #[cfg(test)]
-mod script;
+mod links;
 #[cfg(test)]
 mod site_commands;
 #[cfg(test)]
 mod sites;
+#[cfg(test)]
+mod tables;
 #[cfg(test)]
 mod world_commands;
 #[cfg(test)]

@@ -1,5 +1,5 @@
 use Rattle.std.proofs.Common.{◌≡◌}
-use Rattle.test_links.proofs.links.fill.Given as goal
+use Rattle.test_sites.proofs.links.drain.Given as goal
 
 -- the seat stays that of the link
 abbrev pub invariant-loop-n : goal.invariant-loop-n

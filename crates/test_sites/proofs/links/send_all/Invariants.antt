@@ -1,5 +1,5 @@
 use Rattle.std.proofs.Common.{◌≡◌}
-use Rattle.test_links.proofs.links.send_all.Given as goal
+use Rattle.test_sites.proofs.links.send_all.Given as goal
 
 -- the seat stays that of the link
 abbrev pub invariant-loop-word : goal.invariant-loop-word

@@ -4,6 +4,7 @@ use crate::{site_commands, world_commands};
 use gf_site::Site;
 use std::alloc::Global;
 use std::test::Fail;
+use test_kit::notation::history_ids;
 use test_kit::{Answers, ask};
 
 /// What commands act on: a site, and one that is kept aside.
@@ -52,7 +53,7 @@ fn told(alloc: Global, scene: &mut Scene, verb: &str, text: &str) -> Option<Stri
 /// The answer to a command that changes nothing.
 fn told_of(alloc: Global, site: &Site, verb: &str, text: &str) -> Option<String> {
     match verb {
-        "operations" => site_commands::operations(alloc, site.history()),
+        "operations" => history_ids(alloc, site.history()),
         "held" => site_commands::held(alloc, site),
         "versions" => site_commands::versions(alloc, site, text),
         "past" => site_commands::past(alloc, site.history(), text),
