@@ -1,6 +1,6 @@
 use Rattle.std.proofs.Common.{◌≤◌, All}
 use Rattle.std.specs.Prelude.{vec_len}
-use Rattle.test_sessions.proofs.scripts.scripts.Given as goal
+use Rattle.test_sites.proofs.scripts.scripts.Given as goal
 
 -- the scripts so far are not long
 abbrev pub invariant-loop-part : goal.invariant-loop-part

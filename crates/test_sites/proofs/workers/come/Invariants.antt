@@ -1,5 +1,5 @@
 use Rattle.gf_worker.specs.Peers.{StandsInTable}
-use Rattle.test_sessions.proofs.workers.come.Given as goal
+use Rattle.test_sites.proofs.workers.come.Given as goal
 
 -- the peer's links stand at its indices in the table
 abbrev pub invariant-loop : goal.invariant-loop

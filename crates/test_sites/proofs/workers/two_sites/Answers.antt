@@ -1,5 +1,5 @@
-use Rattle.test_sessions.proofs.RowLemmas.{first_placed, first_fresh, peer_placed}
-use Rattle.test_sessions.proofs.workers.two_sites.Goals as goal
+use Rattle.test_sites.proofs.RowLemmas.{first_placed, first_fresh, peer_placed}
+use Rattle.test_sites.proofs.workers.two_sites.Goals as goal
 
 pub returns-clause-placed : goal.returns-clause-placed
 returns-clause-placed g c =
