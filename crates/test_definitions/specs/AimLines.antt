@@ -1,5 +1,6 @@
 -- Worked examples of lines that aim at operations, checked by computing.
-use Rattle.std.specs.Prelude.{◌≡◌, ℕ, List, [], ◌∷◌, ◌++◌, Ok, Err, refl, codes}
+use Rattle.std.specs.Prelude.{◌≡◌, ℕ, List, [], ◌∷◌, ◌++◌, map, replicate}
+use Rattle.std.specs.Prelude.{Ok, Err, refl, codes}
 use Rattle.std.specs.Str.{is_utf8, chars}
 use Rattle.std.specs.Fmt.{digits}
 use Rattle.gf_ops.specs.declared.op.Op.{Op}
@@ -36,26 +37,17 @@ pub empty_aim_read : denoted (aimed (codes "[]")) ≡ Ok (sets_to (value.Layer 5
 unfolding serde_json_on_literals digits is_utf8 chars
 empty_aim_read = refl
 
-pub falling_aim : denoted (aimed (codes "[[2,1],[1,1]]")) ≡ Err fault.Field
-unfolding serde_json_on_literals digits is_utf8 chars
-falling_aim = refl
-
-pub repeated_aim : denoted (aimed (codes "[[1,1],[1,1]]")) ≡ Err fault.Field
-unfolding serde_json_on_literals digits is_utf8 chars
-repeated_aim = refl
-
 pub aim_of_site_nine : denoted (aimed (codes "[[1,1],[9,1]]")) ≡ Err fault.Range
 unfolding serde_json_on_literals digits is_utf8 chars
 aim_of_site_nine = refl
 
--- a wrong order is a fault of form, and comes before the limits
-pub falling_from_site_nine : denoted (aimed (codes "[[9,1],[1,1]]")) ≡ Err fault.Field
+-- falling ids, also from site 9; an id twice, and one that stands alone
+pub of_another_form : map denoted
+    (aimed (codes "[[2,1],[1,1]]") ∷ aimed (codes "[[9,1],[1,1]]")
+    ∷ aimed (codes "[[1,1],[1,1]]") ∷ aimed (codes "[1,1]") ∷ [])
+    ≡ replicate 4 (Err fault.Field)
 unfolding serde_json_on_literals digits is_utf8 chars
-falling_from_site_nine = refl
-
-pub one_id_alone : denoted (aimed (codes "[1,1]")) ≡ Err fault.Field
-unfolding serde_json_on_literals digits is_utf8 chars
-one_id_alone = refl
+of_another_form = refl
 
 -- a command of site 2 with an aim
 abbrev pub command_line : List ℕ

@@ -1,6 +1,6 @@
 -- Worked examples of lines that create a box, checked by computing.
-use Rattle.std.specs.Prelude.{◌≡◌, ℕ, List, ◌∷◌, ◌++◌, replicate, Ok, Err, refl}
-use Rattle.std.specs.Prelude.{codes, true, pos}
+use Rattle.std.specs.Prelude.{◌≡◌, ℕ, List, [], ◌∷◌, ◌++◌, map, replicate}
+use Rattle.std.specs.Prelude.{Ok, Err, refl, codes, true, pos}
 use Rattle.std.specs.Str.{is_utf8, chars}
 use Rattle.std.specs.Fmt.{digits}
 use Rattle.gf_ops.specs.declared.op.Op.{Op}
@@ -58,82 +58,47 @@ pub the_last_layer_stands : denoted
 unfolding serde_json_on_literals digits is_utf8 chars
 the_last_layer_stands = refl
 
-pub layer_above : denoted (line (codes "[1,1]") zeros (codes "10000") (codes "[300,400]"))
-    ≡ Err fault.Range
-unfolding serde_json_on_literals digits is_utf8 chars
-layer_above = refl
+-- a line of the red box on the layer of this text
+abbrev pub layered : List ℕ → List ℕ
+layered layer = line (codes "[1,1]") zeros layer (codes "[300,400]")
 
-pub layer_with_a_point : denoted (line (codes "[1,1]") zeros (codes "1.0") (codes "[300,400]"))
-    ≡ Err fault.Field
+pub layers_beyond_the_limits : map denoted
+    (layered (codes "10000") ∷ layered (codes "-1") ∷ []) ≡ replicate 2 (Err fault.Range)
 unfolding serde_json_on_literals digits is_utf8 chars
-layer_with_a_point = refl
+layers_beyond_the_limits = refl
 
-pub layer_with_an_exponent : denoted (line (codes "[1,1]") zeros (codes "1e3") (codes "[300,400]"))
-    ≡ Err fault.Field
+-- serde_json reads -0 as a float; the fourth is 2 ^ 63, and behind the last stands another key
+pub layers_of_another_form : map denoted
+    (layered (codes "1.0") ∷ layered (codes "1e3") ∷ layered (codes "-0")
+    ∷ layered (codes "9223372036854775808") ∷ layered (codes "0,\"to\":0") ∷ [])
+    ≡ replicate 5 (Err fault.Field)
 unfolding serde_json_on_literals digits is_utf8 chars
-layer_with_an_exponent = refl
+layers_of_another_form = refl
 
-pub layer_below_zero : denoted (line (codes "[1,1]") zeros (codes "-1") (codes "[300,400]"))
-    ≡ Err fault.Range
+-- a site, a past and a size
+pub beyond_the_limits : map denoted
+    (line (codes "[9,1]") zeros (codes "0") (codes "[300,400]")
+    ∷ line (codes "[1,1]") (codes "[0,0,0,0,0,0,0,10001]") (codes "0") (codes "[300,400]")
+    ∷ line (codes "[1,1]") zeros (codes "0") (codes "[300,0]") ∷ [])
+    ≡ replicate 3 (Err fault.Range)
 unfolding serde_json_on_literals digits is_utf8 chars
-layer_below_zero = refl
+beyond_the_limits = refl
 
--- serde_json reads -0 as a float
-pub layer_minus_zero : denoted (line (codes "[1,1]") zeros (codes "-0") (codes "[300,400]"))
-    ≡ Err fault.Field
+-- a past of seven numbers; and a size of another form, which comes before a site and a layer
+pub of_another_form : map denoted
+    (line (codes "[1,1]") (codes "[0,0,0,0,0,0,0]") (codes "0") (codes "[300,400]")
+    ∷ line (codes "[9,1]") zeros (codes "10000") (codes "[300,null]") ∷ [])
+    ≡ replicate 2 (Err fault.Field)
 unfolding serde_json_on_literals digits is_utf8 chars
-layer_minus_zero = refl
+of_another_form = refl
 
-pub layer_of_65_bits : denoted
-    (line (codes "[1,1]") zeros (codes "9223372036854775808") (codes "[300,400]"))
-    ≡ Err fault.Field
+pub no_keys_or_no_object : map denoted (codes "{}" ∷ codes "[]" ∷ [])
+    ≡ replicate 2 (Err fault.Field)
 unfolding serde_json_on_literals digits is_utf8 chars
-layer_of_65_bits = refl
+no_keys_or_no_object = refl
 
-pub site_nine : denoted (line (codes "[9,1]") zeros (codes "0") (codes "[300,400]"))
-    ≡ Err fault.Range
+-- a line that is cut short, and a byte that is no UTF-8 inside a string
+pub no_json : map denoted (codes "{" ∷ (codes "{\"" ++ 255 ∷ codes "\":0}") ∷ [])
+    ≡ replicate 2 (Err fault.Json)
 unfolding serde_json_on_literals digits is_utf8 chars
-site_nine = refl
-
-pub past_of_seven : denoted (line (codes "[1,1]") (codes "[0,0,0,0,0,0,0]") (codes "0")
-    (codes "[300,400]")) ≡ Err fault.Field
-unfolding serde_json_on_literals digits is_utf8 chars
-past_of_seven = refl
-
-pub past_above : denoted (line (codes "[1,1]") (codes "[0,0,0,0,0,0,0,10001]") (codes "0")
-    (codes "[300,400]")) ≡ Err fault.Range
-unfolding serde_json_on_literals digits is_utf8 chars
-past_above = refl
-
-pub size_zero : denoted (line (codes "[1,1]") zeros (codes "0") (codes "[300,0]"))
-    ≡ Err fault.Range
-unfolding serde_json_on_literals digits is_utf8 chars
-size_zero = refl
-
--- a fault of form comes before those of limits
-pub field_before_range : denoted (line (codes "[9,1]") zeros (codes "10000") (codes "[300,null]"))
-    ≡ Err fault.Field
-unfolding serde_json_on_literals digits is_utf8 chars
-field_before_range = refl
-
-pub an_unknown_key : denoted (line (codes "[1,1]") zeros (codes "0,\"to\":0") (codes "[300,400]"))
-    ≡ Err fault.Field
-unfolding serde_json_on_literals digits is_utf8 chars
-an_unknown_key = refl
-
-pub cut_short : denoted (codes "{") ≡ Err fault.Json
-unfolding serde_json_on_literals digits is_utf8 chars
-cut_short = refl
-
-pub no_keys : denoted (codes "{}") ≡ Err fault.Field
-unfolding serde_json_on_literals digits is_utf8 chars
-no_keys = refl
-
-pub no_object : denoted (codes "[]") ≡ Err fault.Field
-unfolding serde_json_on_literals digits is_utf8 chars
-no_object = refl
-
--- a byte that is no UTF-8 inside a string
-pub no_utf8 : denoted (codes "{\"" ++ 255 ∷ codes "\":0}") ≡ Err fault.Json
-unfolding serde_json_on_literals digits is_utf8 chars
-no_utf8 = refl
+no_json = refl

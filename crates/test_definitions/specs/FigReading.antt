@@ -1,6 +1,6 @@
 -- Worked examples of the FIG grammar, checked by computing: drawings that texts read as, and faults
 -- with which some fail.
-use Rattle.std.specs.Prelude.{refl, ℕ, ℤ, pos, false, List, [], ◌∷◌, ◌++◌, codes}
+use Rattle.std.specs.Prelude.{refl, ℕ, pos, false, List, [], ◌∷◌, ◌++◌, codes}
 use Rattle.gf_shape.specs.declared.point.Point.{Point}
 use Rattle.gf_shape.specs.declared.outline.Outline.TheVariants.{Chain, Disc, Oval}
 use Rattle.gf_shape.specs.Reach.{is_reached}
@@ -29,19 +29,17 @@ pub no_objects : Reads head nothing
 unfolding outcome_of objects_of object_tokens
 no_objects = reads_by head nothing refl
 
-pub no_text : Fails [] fault.Version 0
-unfolding outcome_of objects_of object_tokens
-no_text = fails_by [] fault.Version 0 refl
-
-pub no_header : Fails (codes "#FIG 3.2\n") fault.Header 0
-unfolding outcome_of objects_of object_tokens
-no_header = fails_by (codes "#FIG 3.2\n") fault.Header 0 refl
-
-pub no_resolution : Fails (codes "#FIG 3.2\nLandscape\nCenter\nMetric\nA4\n100.00\nSingle\n-2\n")
+-- a text that ends before its first line, its header or its resolution
+pub cut_heads : Fails [] fault.Version 0 × Fails (codes "#FIG 3.2\n") fault.Header 0
+    × Fails (codes "#FIG 3.2\nLandscape\nCenter\nMetric\nA4\n100.00\nSingle\n-2\n")
     fault.Resolution 0
 unfolding outcome_of objects_of object_tokens
-no_resolution = fails_by (codes "#FIG 3.2\nLandscape\nCenter\nMetric\nA4\n100.00\nSingle\n-2\n")
-    fault.Resolution 0 refl
+cut_heads = (
+  fails_by [] fault.Version 0 refl,
+  fails_by (codes "#FIG 3.2\n") fault.Header 0 refl,
+  fails_by (codes "#FIG 3.2\nLandscape\nCenter\nMetric\nA4\n100.00\nSingle\n-2\n")
+      fault.Resolution 0 refl,
+)
 
 -- ---- a triangle of another program
 
@@ -75,27 +73,23 @@ abbrev pub open_text : List ℕ
 open_text =
     front ++ codes "2 1 0 0 4 4 50 -1 20 0.000 0 0 -1 0 0 4\n\t 0 0 1200 0\n\t 600 900 0 0\n"
 
-pub an_open_kind : Fails open_text fault.SubType 1
-unfolding outcome_of objects_of object_tokens object natural polyline_object known_colour filling
-    style count chain point points whole decimal is_reached
-an_open_kind = fails_by open_text fault.SubType 1 refl
-
+-- no colour has the number 40
 abbrev pub unknown_text : List ℕ
 unknown_text =
     front ++ codes "2 3 0 0 4 40 50 -1 20 0.000 0 0 -1 0 0 4\n\t 0 0 1200 0\n\t 600 900 0 0\n"
 
-pub an_unknown_colour : Fails unknown_text fault.NoColour 1
-unfolding outcome_of objects_of object_tokens object natural polyline_object known_colour filling
-    style count chain point points whole decimal is_reached
-an_unknown_colour = fails_by unknown_text fault.NoColour 1 refl
-
 abbrev pub cut_text : List ℕ
 cut_text = front ++ codes "2 3 0 0 4 4 50 -1 20 0.000 0 0 -1 0 0 4\n\t 0 0 1200 0\n\t 600"
 
-pub a_cut_text : Fails cut_text fault.Cut 1
+pub no_triangles : Fails open_text fault.SubType 1 × Fails unknown_text fault.NoColour 1
+    × Fails cut_text fault.Cut 1
 unfolding outcome_of objects_of object_tokens object natural polyline_object known_colour filling
     style count chain point points whole decimal is_reached
-a_cut_text = fails_by cut_text fault.Cut 1 refl
+no_triangles = (
+  fails_by open_text fault.SubType 1 refl,
+  fails_by unknown_text fault.NoColour 1 refl,
+  fails_by cut_text fault.Cut 1 refl,
+)
 
 -- ---- colours and circles
 
@@ -117,10 +111,22 @@ a_circle = reads_by circle_text circle refl
 abbrev pub unequal_text : List ℕ
 unequal_text = head ++ codes "0 32 #00ff00\n1 3 0 0 32 32 0 -1 20 0.000 1 0.0000 0 0 1 2 0 0 1 0\n"
 
-pub unequal_radii : Fails unequal_text fault.Radius 2
+abbrev pub late_text : List ℕ
+late_text = circle_text ++ codes "0 33 #00ff00\n"
+
+pub unequal_radii_and_a_late_colour : Fails unequal_text fault.Radius 2
+    × Fails late_text fault.LateColour 3
 unfolding outcome_of objects_of object_tokens object natural colour_object ellipse_object
     known_colour filling style ellipse disc point whole decimal colour is_reached
-unequal_radii = fails_by unequal_text fault.Radius 2 refl
+unequal_radii_and_a_late_colour =
+    (fails_by unequal_text fault.Radius 2 refl, fails_by late_text fault.LateColour 3 refl)
+
+abbrev pub twice_text : List ℕ
+twice_text = head ++ codes "0 32 #ff0000\n0 32 #ff0000\n"
+
+pub a_colour_twice : Fails twice_text fault.ColourTwice 2
+unfolding outcome_of objects_of object_tokens object natural colour_object whole colour
+a_colour_twice = fails_by twice_text fault.ColourTwice 2 refl
 
 -- ---- ellipses
 
@@ -139,45 +145,27 @@ flat = record {
   } ∷ [];
 }
 
-pub an_oval : Reads (oval_text (codes "1") (codes "-0.000")) flat
+-- by radii and by diameters
+pub ovals : Reads (oval_text (codes "1") (codes "-0.000")) flat
+    × Reads (oval_text (codes "2") (codes "0")) flat
 unfolding outcome_of objects_of object_tokens object natural ellipse_object known_colour filling
     style ellipse oval no_angle point whole decimal angle is_reached
-an_oval = reads_by (oval_text (codes "1") (codes "-0.000")) flat refl
-
-pub an_oval_by_diameters : Reads (oval_text (codes "2") (codes "0")) flat
-unfolding outcome_of objects_of object_tokens object natural ellipse_object known_colour filling
-    style ellipse oval no_angle point whole decimal angle is_reached
-an_oval_by_diameters = reads_by (oval_text (codes "2") (codes "0")) flat refl
-
-pub a_turned_oval : Fails (oval_text (codes "1") (codes "0.5000")) fault.Angle 1
-unfolding outcome_of objects_of object_tokens object natural ellipse_object known_colour filling
-    style ellipse oval no_angle point whole decimal angle is_reached
-a_turned_oval = fails_by (oval_text (codes "1") (codes "0.5000")) fault.Angle 1 refl
-
-pub no_sub_type : Fails (oval_text (codes "5") (codes "0")) fault.SubType 1
-unfolding outcome_of objects_of object_tokens object natural ellipse_object known_colour filling
-    style ellipse oval no_angle point whole decimal angle is_reached
-no_sub_type = fails_by (oval_text (codes "5") (codes "0")) fault.SubType 1 refl
+ovals = (
+  reads_by (oval_text (codes "1") (codes "-0.000")) flat refl,
+  reads_by (oval_text (codes "2") (codes "0")) flat refl,
+)
 
 abbrev pub flattened_text : List ℕ
 flattened_text = head ++ codes "1 1 0 0 4 4 50 -1 20 0.000 1 0 0 0 3 0 0 0 3 0\n"
 
-pub no_height : Fails flattened_text fault.Radius 1
+-- a turned one, one of no sub type, and one of no height
+pub no_ovals : Fails (oval_text (codes "1") (codes "0.5000")) fault.Angle 1
+    × Fails (oval_text (codes "5") (codes "0")) fault.SubType 1
+    × Fails flattened_text fault.Radius 1
 unfolding outcome_of objects_of object_tokens object natural ellipse_object known_colour filling
     style ellipse oval no_angle point whole decimal angle is_reached
-no_height = fails_by flattened_text fault.Radius 1 refl
-
-abbrev pub late_text : List ℕ
-late_text = circle_text ++ codes "0 33 #00ff00\n"
-
-pub a_late_colour : Fails late_text fault.LateColour 3
-unfolding outcome_of objects_of object_tokens object natural colour_object ellipse_object
-    known_colour filling style ellipse disc point whole decimal colour is_reached
-a_late_colour = fails_by late_text fault.LateColour 3 refl
-
-abbrev pub twice_text : List ℕ
-twice_text = head ++ codes "0 32 #ff0000\n0 32 #ff0000\n"
-
-pub a_colour_twice : Fails twice_text fault.ColourTwice 2
-unfolding outcome_of objects_of object_tokens object natural colour_object whole colour
-a_colour_twice = fails_by twice_text fault.ColourTwice 2 refl
+no_ovals = (
+  fails_by (oval_text (codes "1") (codes "0.5000")) fault.Angle 1 refl,
+  fails_by (oval_text (codes "5") (codes "0")) fault.SubType 1 refl,
+  fails_by flattened_text fault.Radius 1 refl,
+)

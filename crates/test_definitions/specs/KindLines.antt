@@ -1,6 +1,6 @@
 -- Worked examples of lines that create circles and polygons, checked by computing.
-use Rattle.std.specs.Prelude.{◌≡◌, ℕ, List, [], ◌∷◌, ◌++◌, Ok, Err, refl, codes}
-use Rattle.std.specs.Prelude.{pos, negsuc}
+use Rattle.std.specs.Prelude.{◌≡◌, ℕ, List, [], ◌∷◌, ◌++◌, map, replicate}
+use Rattle.std.specs.Prelude.{Ok, Err, refl, codes, pos, negsuc}
 use Rattle.std.specs.Str.{is_utf8, chars}
 use Rattle.std.specs.Fmt.{digits}
 use Rattle.gf_ops.specs.declared.change.Form.TheVariants.{Polygon, Circle, Ellipse}
@@ -22,29 +22,17 @@ unfolding serde_json_on_literals digits is_utf8 chars
 red_circle_read = refl
 
 -- the two numbers of a circle are its radius
-pub unequal_circle : denoted (shaped (codes "circle") (codes "\"size\":[7,8]")) ≡ Err fault.Field
+pub unequal_circles : map denoted
+    (shaped (codes "circle") (codes "\"size\":[7,8]")
+    ∷ shaped (codes "circle") (codes "\"size\":[7,1000001]") ∷ [])
+    ≡ replicate 2 (Err fault.Field)
 unfolding serde_json_on_literals digits is_utf8 chars
-unequal_circle = refl
-
-pub unequal_circle_above : denoted (shaped (codes "circle") (codes "\"size\":[7,1000001]"))
-    ≡ Err fault.Field
-unfolding serde_json_on_literals digits is_utf8 chars
-unequal_circle_above = refl
-
-pub circle_of_no_radius : denoted (shaped (codes "circle") (codes "\"size\":[0,0]"))
-    ≡ Err fault.Range
-unfolding serde_json_on_literals digits is_utf8 chars
-circle_of_no_radius = refl
+unequal_circles = refl
 
 pub red_ellipse_read : denoted (shaped (codes "ellipse") (codes "\"size\":[3,2]"))
     ≡ Ok (red (Ellipse 3 2))
 unfolding serde_json_on_literals digits is_utf8 chars
 red_ellipse_read = refl
-
-pub ellipse_of_no_height : denoted (shaped (codes "ellipse") (codes "\"size\":[3,0]"))
-    ≡ Err fault.Range
-unfolding serde_json_on_literals digits is_utf8 chars
-ellipse_of_no_height = refl
 
 pub red_polygon_read : denoted
     (shaped (codes "polygon") (codes "\"points\":[[0,0],[10,-20],[0,30]]"))
@@ -53,10 +41,14 @@ pub red_polygon_read : denoted
 unfolding serde_json_on_literals digits is_utf8 chars
 red_polygon_read = refl
 
-pub polygon_of_two : denoted (shaped (codes "polygon") (codes "\"points\":[[0,0],[10,20]]"))
-    ≡ Err fault.Range
+-- no radius, no height, and two points
+pub beyond_the_limits : map denoted
+    (shaped (codes "circle") (codes "\"size\":[0,0]")
+    ∷ shaped (codes "ellipse") (codes "\"size\":[3,0]")
+    ∷ shaped (codes "polygon") (codes "\"points\":[[0,0],[10,20]]") ∷ [])
+    ≡ replicate 3 (Err fault.Range)
 unfolding serde_json_on_literals digits is_utf8 chars
-polygon_of_two = refl
+beyond_the_limits = refl
 
 -- an element of a wrong form comes before the count
 pub polygon_of_two_with_a_fault : denoted
@@ -64,16 +56,9 @@ pub polygon_of_two_with_a_fault : denoted
 unfolding serde_json_on_literals digits is_utf8 chars
 polygon_of_two_with_a_fault = refl
 
-pub box_with_points : denoted (shaped (codes "box") (codes "\"points\":[[0,0],[10,20],[0,30]]"))
-    ≡ Err fault.Field
+pub of_another_kind : map denoted
+    (shaped (codes "box") (codes "\"points\":[[0,0],[10,20],[0,30]]")
+    ∷ shaped (codes "polygon") (codes "\"size\":[7,7]")
+    ∷ shaped (codes "star") (codes "\"size\":[7,7]") ∷ []) ≡ replicate 3 (Err fault.Field)
 unfolding serde_json_on_literals digits is_utf8 chars
-box_with_points = refl
-
-pub polygon_with_a_size : denoted (shaped (codes "polygon") (codes "\"size\":[7,7]"))
-    ≡ Err fault.Field
-unfolding serde_json_on_literals digits is_utf8 chars
-polygon_with_a_size = refl
-
-pub another_kind : denoted (shaped (codes "star") (codes "\"size\":[7,7]")) ≡ Err fault.Field
-unfolding serde_json_on_literals digits is_utf8 chars
-another_kind = refl
+of_another_kind = refl

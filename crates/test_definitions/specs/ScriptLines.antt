@@ -1,5 +1,6 @@
 -- Worked examples of script lines, checked by computing.
-use Rattle.std.specs.Prelude.{◌≡◌, [], Ok, Err, refl, codes, pos, true, ◌++◌}
+use Rattle.std.specs.Prelude.{◌≡◌, [], ◌∷◌, ◌++◌, map, replicate, Ok, Err, refl}
+use Rattle.std.specs.Prelude.{codes, pos, true}
 use Rattle.std.specs.Str.{is_utf8, chars}
 use Rattle.std.specs.Fmt.{digits}
 use Rattle.gf_ops.specs.declared.change.Form.TheVariants.{Rect}
@@ -48,44 +49,27 @@ unfolding serde_json_on_literals digits is_utf8 chars
 later_await_read = refl
 
 pub no_operation : denoted (codes "{\"site\":1,\"do\":\"create\",\"kind\":\"box\",\"place\":[0,0],"
-    ++ codes "\"size\":[10,10],\"colour\":\"ff0000\",\"layer\":0,\"shown\":true}") ≡ Err fault.Field
+    ++ codes "\"size\":[10,10],\"colour\":\"ff0000\",\"layer\":0,\"shown\":true}")
+    ≡ Err fault.Field
 unfolding serde_json_on_literals digits is_utf8 chars
 no_operation = refl
 
-pub with_a_past : script_denoted
-    (codes "{\"site\":1,\"do\":\"create\",\"kind\":\"box\",\"place\":[0,0],"
+-- a past and an id too many, an id too few, and another command; the last but one is of site 9, too
+pub of_another_form : map script_denoted
+    ((codes "{\"site\":1,\"do\":\"create\",\"kind\":\"box\",\"place\":[0,0],"
     ++ codes "\"size\":[10,10],\"colour\":\"ff0000\",\"layer\":0,\"shown\":true,"
-    ++ codes "\"past\":[0,0,0,0,0,0,0,0]}") ≡ Err fault.Field
+    ++ codes "\"past\":[0,0,0,0,0,0,0,0]}")
+    ∷ (codes "{\"site\":2,\"do\":\"set\",\"id\":[1,1],\"object\":[1,1],\"set\":\"colour\","
+    ++ codes "\"to\":\"0000ff\"}")
+    ∷ codes "{\"site\":2,\"do\":\"await\"}"
+    ∷ codes "{\"site\":9,\"do\":\"await\",\"id\":[1]}"
+    ∷ codes "{\"site\":2,\"do\":\"wait\",\"id\":[1,1]}" ∷ []) ≡ replicate 5 (Err fault.Field)
 unfolding serde_json_on_literals digits is_utf8 chars
-with_a_past = refl
+of_another_form = refl
 
-pub with_an_id : script_denoted
-    (codes "{\"site\":2,\"do\":\"set\",\"id\":[1,1],\"object\":[1,1],\"set\":\"colour\","
-    ++ codes "\"to\":\"0000ff\"}") ≡ Err fault.Field
+pub of_another_site : map script_denoted
+    (codes "{\"site\":9,\"do\":\"await\",\"id\":[1,1]}"
+    ∷ codes "{\"site\":0,\"do\":\"set\",\"object\":[1,1],\"set\":\"colour\",\"to\":\"0000ff\"}"
+    ∷ []) ≡ replicate 2 (Err fault.Range)
 unfolding serde_json_on_literals digits is_utf8 chars
-with_an_id = refl
-
-pub await_without_an_id : script_denoted (codes "{\"site\":2,\"do\":\"await\"}") ≡ Err fault.Field
-unfolding serde_json_on_literals digits is_utf8 chars
-await_without_an_id = refl
-
-pub site_nine : script_denoted (codes "{\"site\":9,\"do\":\"await\",\"id\":[1,1]}")
-    ≡ Err fault.Range
-unfolding serde_json_on_literals digits is_utf8 chars
-site_nine = refl
-
-pub site_zero : script_denoted
-    (codes "{\"site\":0,\"do\":\"set\",\"object\":[1,1],\"set\":\"colour\",\"to\":\"0000ff\"}")
-    ≡ Err fault.Range
-unfolding serde_json_on_literals digits is_utf8 chars
-site_zero = refl
-
-pub field_before_range : script_denoted (codes "{\"site\":9,\"do\":\"await\",\"id\":[1]}")
-    ≡ Err fault.Field
-unfolding serde_json_on_literals digits is_utf8 chars
-field_before_range = refl
-
-pub another_command : script_denoted (codes "{\"site\":2,\"do\":\"wait\",\"id\":[1,1]}")
-    ≡ Err fault.Field
-unfolding serde_json_on_literals digits is_utf8 chars
-another_command = refl
+of_another_site = refl

@@ -1,6 +1,6 @@
 -- Worked examples of lines that set an attribute, checked by computing.
-use Rattle.std.specs.Prelude.{◌≡◌, ℕ, List, [], ◌∷◌, ◌++◌, replicate, Ok, Err}
-use Rattle.std.specs.Prelude.{refl, codes, pos, negsuc, false}
+use Rattle.std.specs.Prelude.{◌≡◌, ℕ, List, [], ◌∷◌, ◌++◌, map, replicate}
+use Rattle.std.specs.Prelude.{Ok, Err, refl, codes, pos, negsuc, false}
 use Rattle.std.specs.Str.{is_utf8, chars}
 use Rattle.std.specs.Fmt.{digits}
 use Rattle.gf_ops.specs.declared.op.Op.{Op}
@@ -69,19 +69,13 @@ pub shown_read : denoted (line (codes "[1,1]") (codes "shown") (codes "false"))
 unfolding serde_json_on_literals digits is_utf8 chars
 shown_read = refl
 
-pub layer_above : denoted (line (codes "[1,1]") (codes "layer") (codes "10000")) ≡ Err fault.Range
+-- a layer, two points, and the site of the object
+pub beyond_the_limits : map denoted
+    (line (codes "[1,1]") (codes "layer") (codes "10000")
+    ∷ line (codes "[1,1]") (codes "points") (codes "[[0,0],[1,0]]")
+    ∷ line (codes "[9,1]") (codes "layer") (codes "0") ∷ []) ≡ replicate 3 (Err fault.Range)
 unfolding serde_json_on_literals digits is_utf8 chars
-layer_above = refl
-
-pub two_points : denoted (line (codes "[1,1]") (codes "points") (codes "[[0,0],[1,0]]"))
-    ≡ Err fault.Range
-unfolding serde_json_on_literals digits is_utf8 chars
-two_points = refl
-
-pub object_of_site_nine : denoted (line (codes "[9,1]") (codes "layer") (codes "0"))
-    ≡ Err fault.Range
-unfolding serde_json_on_literals digits is_utf8 chars
-object_of_site_nine = refl
+beyond_the_limits = refl
 
 -- a fault of form comes before those of limits
 pub field_before_range : denoted (line (codes "[9,1]") (codes "layer") (codes "null"))
@@ -89,17 +83,11 @@ pub field_before_range : denoted (line (codes "[9,1]") (codes "layer") (codes "n
 unfolding serde_json_on_literals digits is_utf8 chars
 field_before_range = refl
 
-pub another_attribute : denoted (line (codes "[1,1]") (codes "kind") (codes "0"))
-    ≡ Err fault.Field
+-- another attribute, the form of another one, and another key
+pub of_another_form : map denoted
+    (line (codes "[1,1]") (codes "kind") (codes "0")
+    ∷ line (codes "[1,1]") (codes "layer") (codes "true")
+    ∷ line (codes "[1,1]") (codes "layer") (codes "-1,\"x\":0") ∷ [])
+    ≡ replicate 3 (Err fault.Field)
 unfolding serde_json_on_literals digits is_utf8 chars
-another_attribute = refl
-
-pub the_form_of_another : denoted (line (codes "[1,1]") (codes "layer") (codes "true"))
-    ≡ Err fault.Field
-unfolding serde_json_on_literals digits is_utf8 chars
-the_form_of_another = refl
-
-pub an_unknown_key : denoted (line (codes "[1,1]") (codes "layer") (codes "-1,\"x\":0"))
-    ≡ Err fault.Field
-unfolding serde_json_on_literals digits is_utf8 chars
-an_unknown_key = refl
+of_another_form = refl

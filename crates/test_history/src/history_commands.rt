@@ -37,16 +37,6 @@ fn checked(alloc: Global, answer: Result<(), OpFault>) -> Option<String> {
     }
 }
 
-/// The operations of the history, in the order in which they were added.
-pub(crate) fn operations(alloc: Global, history: &History) -> Option<String> {
-    let mut ids = String::new(alloc);
-    for op in history.ops() {
-        let id = format!(in alloc; "{} ", op.id).ok()?;
-        ids.push_str(id.as_str()).ok()?;
-    }
-    Some(ids)
-}
-
 /// How many operations of a site the history has.
 pub(crate) fn count(alloc: Global, history: &History, text: &str) -> Option<String> {
     let site: u8 = text.parse().ok()?;

@@ -5,6 +5,7 @@ use gf_causal::Buffer;
 use gf_ops::History;
 use std::alloc::Global;
 use std::test::Fail;
+use test_kit::notation::history_ids;
 use test_kit::{Answers, ask};
 
 /// What commands act on.
@@ -60,7 +61,7 @@ fn renew(alloc: Global, scene: &mut Scene) -> Option<String> {
 fn told_of(alloc: Global, history: &History, verb: &str, text: &str) -> Option<String> {
     match verb {
         "check" => history_commands::check(alloc, history, text),
-        "operations" => history_commands::operations(alloc, history),
+        "operations" => history_ids(alloc, history),
         "count" => history_commands::count(alloc, history, text),
         "get" => history_commands::get(alloc, history, text),
         "alone" => buffer_commands::alone(alloc, history, text),

@@ -2,7 +2,7 @@
 //! 1.1 layer 3` and `1.1: box 3 4, colour ff0000`. A text of another form has no value.
 
 use crate::plain;
-use gf_ops::{Change, Clock, Form, Ids, ObjectId, Op, OpId, Points, Start, Value};
+use gf_ops::{Change, Clock, Form, History, Ids, ObjectId, Op, OpId, Points, Start, Value};
 use gf_shape::{Point, Rgb};
 use std::alloc::Global;
 
@@ -23,6 +23,16 @@ pub fn push_ids(alloc: Global, text: &mut String, ids: &[OpId]) -> Option<()> {
         text.push_str(id.as_str()).ok()?;
     }
     text.push_str(" ]").ok()
+}
+
+/// The ids of a history's operations, in the order in which these were added.
+pub fn history_ids(alloc: Global, history: &History) -> Option<String> {
+    let mut ids = String::new(alloc);
+    for op in history.ops() {
+        let id = format!(in alloc; "{} ", op.id).ok()?;
+        ids.push_str(id.as_str()).ok()?;
+    }
+    Some(ids)
 }
 
 /// An answer of yes or no.

@@ -57,16 +57,6 @@ fn stepped(alloc: Global, answer: Result<Step, OutOfMemory>) -> Option<String> {
     }
 }
 
-/// The operations of a history, in the order in which they were added.
-pub(crate) fn operations(alloc: Global, history: &History) -> Option<String> {
-    let mut ids = String::new(alloc);
-    for op in history.ops() {
-        let id = format!(in alloc; "{} ", op.id).ok()?;
-        ids.push_str(id.as_str()).ok()?;
-    }
-    Some(ids)
-}
-
 /// How many operations the site holds.
 pub(crate) fn held(alloc: Global, site: &Site) -> Option<String> {
     format!(in alloc; "{}", site.held()).ok()

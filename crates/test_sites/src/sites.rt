@@ -1,6 +1,6 @@
 //! What a site answers, by hand from the rules of sites.
 
-use crate::script::answers;
+use crate::tables::answers;
 use std::test::Fail;
 
 const ROWS: &str = "

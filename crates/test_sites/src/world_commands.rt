@@ -1,9 +1,8 @@
 //! Commands about a world.
 
-use crate::site_commands::operations;
 use gf_replicas::{Event, World, world_run};
 use std::alloc::Global;
-use test_kit::notation::change;
+use test_kit::notation::{change, history_ids};
 
 /// `2; author 1 box 1 1; offer 2 0; step 2`: what the sites have behind these events, and the
 /// messages.
@@ -44,7 +43,7 @@ fn event(alloc: Global, text: &str) -> Option<Event> {
 fn told(alloc: Global, world: &World) -> Option<String> {
     let mut text = String::new(alloc);
     for site in &world.sites {
-        let ids = operations(alloc, site.history())?;
+        let ids = history_ids(alloc, site.history())?;
         let ids = format!(in alloc; "[{}] ", ids.as_str().trim()).ok()?;
         text.push_str(ids.as_str()).ok()?;
     }

@@ -1,7 +1,7 @@
 //! Which worlds events lead to, by hand from the rules of worlds. The answer is what each site has,
 //! and how many messages there are.
 
-use crate::script::answers;
+use crate::tables::answers;
 use std::test::Fail;
 
 const ROWS: &str = "
