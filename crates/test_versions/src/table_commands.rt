@@ -5,7 +5,7 @@ ghost use Rattle.std.specs.Prelude.{◌≤◌, IfSome};
 use crate::version_commands::text_of;
 use gf_drawing::compile;
 use gf_figures::Drawing;
-use gf_groups::{GroupFault, Groups, groups_of, is_made};
+use gf_groups::{GroupFault, Groups, is_made};
 use gf_ops::ObjectId;
 use gf_shape::AnyShape;
 use gf_site::Site;
@@ -18,18 +18,6 @@ use test_kit::notation::id;
 pub(crate) fn groups(alloc: Global, site: &Site, text: &str) -> Option<String> {
     let object = ObjectId(id(text)?);
     told(alloc, site.versions().groups(alloc, object))
-}
-
-/// The groups of an object, by the plain call.
-pub(crate) fn plain_groups(alloc: Global, site: &Site, text: &str) -> Option<String> {
-    let object = ObjectId(id(text)?);
-    told(alloc, groups_of(alloc, site.history(), object))
-}
-
-/// How many groups an object has, by the plain call.
-pub(crate) fn plain_count(alloc: Global, site: &Site, text: &str) -> Option<String> {
-    let groups = groups_of(alloc, site.history(), ObjectId(id(text)?)).ok()?;
-    counted(alloc, Some(groups.as_slice().len()))
 }
 
 /// The groups of an object, by a copy of the table.

@@ -60,8 +60,8 @@ fn said(alloc: Global, done: Option<()>) -> Option<String> {
 fn told_of(alloc: Global, site: &Site, verb: &str, text: &str) -> Option<String> {
     match verb {
         "groups" => table_commands::groups(alloc, site, text),
-        "plain" => table_commands::plain_groups(alloc, site, text),
-        "plain_count" => table_commands::plain_count(alloc, site, text),
+        "plain" => version_commands::groups(alloc, site.history(), text),
+        "plain_count" => version_commands::versions(alloc, site.history(), text),
         "copied" => table_commands::copied(alloc, site, text),
         "visible" => table_commands::visible(alloc, site, text),
         "ranked" => table_commands::ranking(alloc, site, text),

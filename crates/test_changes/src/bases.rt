@@ -1,11 +1,10 @@
 //! The bases of a small history.
 
-use gf_ops::History;
 use gf_site::{Site, Step};
 use gf_take::base_site;
 use std::alloc::Global;
 use std::test::Fail;
-use test_kit::notation::{clock, operation};
+use test_kit::notation::{clock, history_ids, operation};
 use test_kit::{Answers, ask};
 
 const ROWS: &str = "
@@ -65,17 +64,7 @@ fn base(alloc: Global, site: &Site, text: &str) -> Option<String> {
         return String::from_str(alloc, "no site").ok();
     }
     let base = base_site(alloc, number, site.history(), &clock(seen)?).ok()?;
-    operations(alloc, base.history())
-}
-
-/// The operations of a history, in the order in which they were added.
-fn operations(alloc: Global, history: &History) -> Option<String> {
-    let mut ids = String::new(alloc);
-    for op in history.ops() {
-        let id = format!(in alloc; "{} ", op.id).ok()?;
-        ids.push_str(id.as_str()).ok()?;
-    }
-    Some(ids)
+    history_ids(alloc, base.history())
 }
 
 #[test]
