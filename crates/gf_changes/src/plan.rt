@@ -8,12 +8,11 @@ use crate::altering::alterations;
 use crate::arranging::{creations_of, followed, layer_changes, layers_for};
 use crate::comparing::compared;
 use crate::matching::{Matching, matched};
-use gf_drawing::MOST_VERSIONS;
 use gf_groups::Group;
 use gf_ops::{Change, Clock, History};
 use gf_shape::{AnyShape, OutOfMemory};
 use gf_site::{AuthorFault, Site};
-use gf_versions::{Placed, Version, settle};
+use gf_versions::{MOST_VERSIONS, Placed, Version, settle};
 use gf_visible::ranked_within;
 use std::alloc::Global;
 

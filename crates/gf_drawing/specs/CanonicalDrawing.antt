@@ -3,7 +3,6 @@
 use Rattle.std.specs.Prelude.{◌≡◌, ℕ, ◌+◌, ◌≤◌, not, List, [], ◌∷◌, length}
 use Rattle.std.specs.Prelude.{map, filter}
 use Rattle.std.specs.List.{enumerate_from, position_or_len}
-use Rattle.gf_drawing.specs.declared.compiling.TheConstants.{MOST_VERSIONS}
 use Rattle.gf_shape.specs.declared.colour.Rgb.{Rgb}
 use Rattle.gf_shape.specs.declared.point.Point.{Point}
 use Rattle.gf_shape.specs.declared.any_shape.AnyShape.{AnyShape}
@@ -13,6 +12,7 @@ use Rattle.gf_shape.specs.ShapeMeaning.{any_holds}
 use Rattle.gf_ops.specs.declared.op.Op.{Op}
 use Rattle.gf_ops.specs.ConflictTests.{colour_eq}
 use Rattle.gf_versions.specs.declared.placed.Placed.{Placed}
+use Rattle.gf_versions.specs.declared.ranking.TheConstants.{MOST_VERSIONS}
 use Rattle.gf_versions.specs.HistoryColour.{HistoryColour}
 use Rattle.gf_versions.specs.Ranking.{AreRanked}
 use Rattle.gf_figures.specs.declared.figure.Figure.{Figure}

@@ -3,18 +3,16 @@
 ghost use Rattle.std.specs.Prelude.{◌≡◌, [], ◌⊎◌, ◌<◌, ◌≤◌, ◌↔◌, length, Err, IfOk, OnOk, IsTrue};
 ghost use Rattle.std.specs.List.{enumerate_from, list_any};
 ghost use Rattle.gf_ops.specs.ConflictTests.{colour_eq};
+ghost use Rattle.gf_versions.specs.declared.ranking.TheConstants.{MOST_VERSIONS};
 ghost use Rattle.gf_drawing.specs.CanonicalDrawing.{Fits, canonical_drawing, canonical_table};
 ghost use Rattle.gf_drawing.specs.CanonicalDrawing.{colours_of, number_of};
 
 use gf_figures::{Drawing, Figure};
 use gf_shape::{OutOfMemory, Rgb, Shape};
-use gf_versions::{Placed, Ranked};
+use gf_versions::{MOST_VERSIONS, Placed, Ranked};
 use indexmap::IndexSet;
 use std::alloc::Global;
 use thiserror::Error;
-
-/// The greatest number of visible versions, one for each depth of FIG.
-pub const MOST_VERSIONS: usize = 1_000;
 
 /// The number of the first colour that a drawing adds.
 const FIRST_NUMBER: u16 = 32;
@@ -52,10 +50,10 @@ pub fn compile<S: Shape>(alloc: Global, ranked: Ranked<S>) -> Result<Drawing<S>,
     ensures drawing { IfOk result (λ drawing. drawing ≡ canonical_drawing ranked.items.items) }
     ensures fits { OnOk result (Fits ranked.items.items) }
     ensures versions { result ≡ Err CompileFault.TooManyVersions
-        ↔ (1000 < length ranked.items.items) }
+        ↔ (MOST_VERSIONS < length ranked.items.items) }
     ensures colours { result ≡ Err CompileFault.TooManyColours
-        → (length ranked.items.items ≤ 1000) × (512 < length (colours_of ranked.items.items)) }
-    ensures many { length ranked.items.items ≤ 1000 → 512 < length (colours_of ranked.items.items)
+        → (length ranked.items.items ≤ MOST_VERSIONS) × (512 < length (colours_of ranked.items.items)) }
+    ensures many { length ranked.items.items ≤ MOST_VERSIONS → 512 < length (colours_of ranked.items.items)
         → (result ≡ Err CompileFault.TooManyColours) ⊎ (result ≡ Err CompileFault.OutOfMemory) }
 {
     if ranked.len() > MOST_VERSIONS {

@@ -1,7 +1,7 @@
 //! The drawing of a history: one figure for each visible version.
 //!
-//! - [`compile`]: the drawing of at most [`MOST_VERSIONS`] ranked versions, refused as
-//!   [`CompileFault`] tells.
+//! - [`compile`]: the drawing of at most [`MOST_VERSIONS`](gf_versions::MOST_VERSIONS) ranked
+//!   versions, refused as [`CompileFault`] tells.
 //! - [`the_canonical_drawing_paints_the_history`] ties this drawing to its history.
 //!
 //! [`Figure`], [`ColourTable`], [`Drawing`] and [`outlines_paint_as_their_shapes`] are those of
@@ -12,7 +12,7 @@
 mod compiling;
 mod laws;
 
-pub use compiling::{CompileFault, MOST_VERSIONS, compile};
+pub use compiling::{CompileFault, compile};
 pub use gf_figures::{ColourTable, Drawing, Figure, outlines_paint_as_their_shapes};
 pub use gf_streams::{Out, Sink, SinkFault, Tape, WriteError, write_whole};
 pub use laws::the_canonical_drawing_paints_the_history;

@@ -4,6 +4,7 @@ ghost use Rattle.std.specs.Prelude.{◌≡◌, ◌⊎◌, ◌↔◌, ◌≤◌, 
 ghost use Rattle.std.specs.Prelude.{flat_map, map, zip};
 ghost use Rattle.gf_shape.specs.Outlines.{any_outline};
 ghost use Rattle.gf_ops.specs.OperationOrder.{count_of};
+ghost use Rattle.gf_versions.specs.declared.ranking.TheConstants.{MOST_VERSIONS};
 ghost use Rattle.gf_versions.specs.Ranking.{AreRanked};
 ghost use Rattle.gf_drawing.specs.CanonicalDrawing.{colours_of};
 ghost use Rattle.gf_fig_write.specs.FigText.{figure_lines};
@@ -15,12 +16,12 @@ use crate::Name;
 use crate::comments::{counts_of, knows_comment, push_name};
 use crate::naming::names_of;
 use gf_base::OutOfMemory;
-use gf_drawing::{CompileFault, MOST_VERSIONS, compile};
+use gf_drawing::{CompileFault, compile};
 use gf_fig_write::{push_outline, push_table};
 use gf_figures::{Drawing, Figure};
 use gf_ops::History;
 use gf_shape::{AnyShape, Shape};
-use gf_versions::Ranked;
+use gf_versions::{MOST_VERSIONS, Ranked};
 use std::alloc::Global;
 
 /// The lines before what is known.
@@ -36,10 +37,10 @@ pub fn named_bytes(
     requires { AreRanked history.now.ops ranked.items.items }
     ensures text { IfOk result (λ bytes. IsNamedText history.now.ops bytes.items) }
     ensures versions { result ≡ Err CompileFault.TooManyVersions
-        ↔ (1000 < length ranked.items.items) }
+        ↔ (MOST_VERSIONS < length ranked.items.items) }
     ensures colours { result ≡ Err CompileFault.TooManyColours
-        → (length ranked.items.items ≤ 1000) × (512 < length (colours_of ranked.items.items)) }
-    ensures many { length ranked.items.items ≤ 1000 → 512 < length (colours_of ranked.items.items)
+        → (length ranked.items.items ≤ MOST_VERSIONS) × (512 < length (colours_of ranked.items.items)) }
+    ensures many { length ranked.items.items ≤ MOST_VERSIONS → 512 < length (colours_of ranked.items.items)
         → (result ≡ Err CompileFault.TooManyColours) ⊎ (result ≡ Err CompileFault.OutOfMemory) }
 {
     if ranked.len() > MOST_VERSIONS {

@@ -3,6 +3,7 @@ use Rattle.std.specs.Prelude.{List, ⊤}
 use Rattle.gf_ops.specs.declared.op.Op.{Op}
 use Rattle.gf_groups.specs.declared.group.Group.{Group}
 use Rattle.gf_groups.specs.Versions.{IsMade}
+use Rattle.gf_versions.specs.declared.ranking.TheConstants.{MOST_VERSIONS}
 use Rattle.gf_visible.specs.ShownVersions.{HasMoreOn}
 use Rattle.gf_keep.specs.declared.faults.KeepFault.{KeepFault}
 use Rattle.gf_keep.specs.declared.faults.KeepFault.TheVariants as fault
@@ -17,6 +18,6 @@ pub record HasNoneKept (h : List Op) (k : Keep) : Type 0 where
 -- why the keep k is refused behind h; want of memory may come with any
 abbrev pub RefusesKeep : List Op → Keep → KeepFault → Type 0
 RefusesKeep h k fault.NoObject = ¬ (IsMade h k.object)
-RefusesKeep h k fault.Range = HasMoreOn h k.object 1000
+RefusesKeep h k fault.Range = HasMoreOn h k.object MOST_VERSIONS
 RefusesKeep h k fault.NoVersion = HasNoneKept h k
 RefusesKeep h k fault.OutOfMemory = ⊤

@@ -5,6 +5,7 @@ ghost use Rattle.std.specs.List.{list_all, list_any};
 ghost use Rattle.std.specs.List.Sorted.{IsPermutation, IsSorted};
 ghost use Rattle.gf_groups.specs.VersionList.{id_eq};
 ghost use Rattle.gf_groups.specs.Versions.{IsMade, group_cmp};
+ghost use Rattle.gf_versions.specs.declared.ranking.TheConstants.{MOST_VERSIONS};
 ghost use Rattle.gf_visible.specs.ShownVersions.{AreVisibleOn, HasMoreOn};
 ghost use Rattle.gf_keep.specs.Keeping.{AreKept};
 ghost use Rattle.gf_keep.specs.KeepSteps.{has_all};
@@ -12,10 +13,10 @@ ghost use Rattle.gf_keep.specs.KeepSteps.{has_all};
 use crate::Keep;
 use crate::tabled::with_table;
 use gf_base::OutOfMemory;
-use gf_components::MOST_SETS;
 use gf_groups::Group;
 use gf_ops::OpId;
 use gf_site::{Site, Table};
+use gf_versions::MOST_VERSIONS;
 use gf_visible::visible_groups;
 use std::alloc::Global;
 
@@ -30,7 +31,7 @@ pub(crate) fn kept_groups<T: Table>(
     ensures kept { IfOk result (λ found.
         IfSome found (λ groups. AreKept site.now.ops keep.now groups.items)) }
     ensures more { IfOk result (λ found.
-        IfNone found (HasMoreOn site.now.ops keep.now.object 1000)) }
+        IfNone found (HasMoreOn site.now.ops keep.now.object MOST_VERSIONS)) }
 {
     let site = with_table(alloc, site)?;
     kept_with(alloc, &site, keep)
@@ -42,9 +43,9 @@ fn kept_with(alloc: Global, site: &Site, keep: &Keep) -> Result<Option<Vec<Group
     ensures kept { IfOk result (λ found.
         IfSome found (λ groups. AreKept site.now.ops keep.now groups.items)) }
     ensures more { IfOk result (λ found.
-        IfNone found (HasMoreOn site.now.ops keep.now.object 1000)) }
+        IfNone found (HasMoreOn site.now.ops keep.now.object MOST_VERSIONS)) }
 {
-    let Some(groups) = visible_groups(alloc, &site.versions(), keep.object, MOST_SETS)? else {
+    let Some(groups) = visible_groups(alloc, &site.versions(), keep.object, MOST_VERSIONS)? else {
         return Ok(None);
     };
     let mut kept = those_with(alloc, groups, keep.with.as_slice())?;

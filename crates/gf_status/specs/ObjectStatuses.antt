@@ -7,6 +7,7 @@ use Rattle.gf_ops.specs.declared.op.ObjectId.{ObjectId}
 use Rattle.gf_ops.specs.OperationOrder.{id_cmp}
 use Rattle.gf_groups.specs.Versions.{IsMade}
 use Rattle.gf_table.specs.Counting.{IsCount}
+use Rattle.gf_versions.specs.declared.ranking.TheConstants.{MOST_VERSIONS}
 use Rattle.gf_status.specs.Counting.{IsShownCount}
 use Rattle.gf_status.specs.declared.differing.Difference.{Difference}
 use Rattle.gf_status.specs.declared.objects.ObjectStatus.{ObjectStatus}
@@ -17,8 +18,8 @@ use Rattle.gf_status.specs.UnseenChanges.{AreUnseen}
 -- the differences of an object with n visible versions, which are listed where n is at most 1,000
 pub record TellsDifferences (h : List Op) (o : ObjectId) (n : ℕ)
     (ds : List Difference) : Type 0 where
-  pub few : n ≤ 1000 → AreDifferences h o attributes ds
-  pub many : 1000 < n → ds ≡ []
+  pub few : n ≤ MOST_VERSIONS → AreDifferences h o attributes ds
+  pub many : MOST_VERSIONS < n → ds ≡ []
 
 -- the last hidings of an object with n visible versions, which are listed where n is 0
 pub record TellsHidings (h : List Op) (o : ObjectId) (n : ℕ) (ids : List OpId) : Type 0 where
@@ -28,8 +29,8 @@ pub record TellsHidings (h : List Op) (o : ObjectId) (n : ℕ) (ids : List OpId)
 -- the operations that changed what is not shown of an object with n visible versions, and knew
 -- nothing of what hides it; they are listed where n is at most 1,000
 pub record TellsUnseen (h : List Op) (o : ObjectId) (n : ℕ) (ids : List OpId) : Type 0 where
-  pub few : n ≤ 1000 → AreUnseen h o ids
-  pub many : 1000 < n → ids ≡ []
+  pub few : n ≤ MOST_VERSIONS → AreUnseen h o ids
+  pub many : MOST_VERSIONS < n → ids ≡ []
 
 -- s is the status of an object of h
 pub record IsObjectStatus (h : List Op) (s : ObjectStatus) : Type 0 where

@@ -12,6 +12,7 @@ use Rattle.gf_ops.specs.IdText.{id_text, spaced_ids_text}
 use Rattle.gf_ops.specs.OperationOrder.{count_of}
 use Rattle.gf_causal.specs.Waiting.{waits_for}
 use Rattle.gf_table.specs.Counting.{capped}
+use Rattle.gf_versions.specs.declared.ranking.TheConstants.{MOST_VERSIONS}
 use Rattle.gf_status.specs.declared.state.State.{State}
 use Rattle.gf_status.specs.declared.state.State.TheVariants.{Clean, Open}
 use Rattle.gf_status.specs.declared.differing.Difference.{Difference}
@@ -39,7 +40,7 @@ waiting_line h a = waits_line a.id (waits_for h a)
 
 -- n in digits, or `more than 1000`
 abbrev pub number_text : ℕ → List ℕ
-number_text n = cond (nat_le n 1000) (decimal n) (codes "more than 1000")
+number_text n = cond (nat_le n MOST_VERSIONS) (decimal n) (codes "more than 1000")
 
 -- the line that the object o has n versions, of which m are shown
 unfoldable pub has_versions_line : ObjectId → ℕ → ℕ → List ℕ
@@ -112,7 +113,7 @@ many_line = codes "drawing has more than 1000 versions shown\n"
 
 -- this line, if n versions are more than a drawing has
 abbrev pub drawing_line : ℕ → List ℕ
-drawing_line n = cond (nat_le n 1000) [] many_line
+drawing_line n = cond (nat_le n MOST_VERSIONS) [] many_line
 
 -- the text of a status: of the history h, of what waits behind h, and of the objects
 abbrev pub status_text : List Op → List Op → List ObjectStatus → List ℕ
@@ -138,7 +139,7 @@ is_clean s = is_none s.differences.items && is_at_most_one s.hidings && is_none 
 
 -- nothing waits, each object is clean, and no more versions are shown than a drawing has
 abbrev pub are_clean : List Op → List ObjectStatus → Bool
-are_clean waiting ss = is_none waiting && list_all is_clean ss && nat_le (shown_in ss) 1000
+are_clean waiting ss = is_none waiting && list_all is_clean ss && nat_le (shown_in ss) MOST_VERSIONS
 
 -- whether something waits or is open
 abbrev pub state_of : List Op → List ObjectStatus → State

@@ -5,17 +5,15 @@ ghost use Rattle.gf_table.specs.Counting.{capped};
 ghost use Rattle.gf_status.specs.StatusLines.{shown_in};
 
 use crate::ObjectStatus;
-
-/// Up to this many versions are counted. One more stands for any greater number.
-pub const MOST_COUNTED: usize = 1_000;
+use gf_versions::MOST_VERSIONS;
 
 fn capped(count: usize) -> usize
     ensures { result ≡ capped count }
 {
-    if count <= MOST_COUNTED {
+    if count <= MOST_VERSIONS {
         count
     } else {
-        MOST_COUNTED + 1
+        MOST_VERSIONS + 1
     }
 }
 

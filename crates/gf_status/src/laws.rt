@@ -3,6 +3,7 @@
 ghost use Rattle.std.specs.Prelude.{ℕ, List};
 ghost use Rattle.gf_ops.specs.declared.op.Op.{Op};
 ghost use Rattle.gf_ops.specs.ValidHistory.{IsValid};
+ghost use Rattle.gf_versions.specs.declared.ranking.TheConstants.{MOST_VERSIONS};
 ghost use Rattle.gf_visible.specs.ShownVersions.{HasMoreVisible};
 ghost use Rattle.gf_status.specs.declared.state.State.TheVariants as state;
 ghost use Rattle.gf_status.specs.StatusRun.{TellsStatus};
@@ -11,5 +12,5 @@ ghost use Rattle.gf_status.specs.StatusRun.{TellsStatus};
 /// refuses it for these.
 pub fn a_clean_history_has_no_more_versions_than_a_drawing()
     ensures { (h waiting : List Op) (text : List ℕ) → IsValid h →
-        TellsStatus h waiting text state.Clean → ¬ (HasMoreVisible h 1000) }
+        TellsStatus h waiting text state.Clean → ¬ (HasMoreVisible h MOST_VERSIONS) }
 {}

@@ -9,11 +9,12 @@ ghost use Rattle.gf_status.specs.StatusLines.{many_line, more_ids_text, number_t
 ghost use Rattle.gf_status.specs.StatusLines.{object_lines, site_line, site_lines, status_text};
 ghost use Rattle.gf_status.specs.StatusLines.{versions_line, waiting_line, waits_line};
 
-use crate::counting::{MOST_COUNTED, shown_in};
+use crate::counting::shown_in;
 use crate::{Difference, ObjectStatus};
 use gf_base::{OutOfMemory, push_number};
 use gf_causal::waits_for;
 use gf_ops::{Attr, History, ObjectId, Op, OpId, push_id, push_spaced_ids};
+use gf_versions::MOST_VERSIONS;
 use std::alloc::{AllocError, Global};
 
 /// The numbers of all sites.
@@ -158,7 +159,7 @@ fn push_has_versions(
 fn push_count(out: &mut Vec<u8>, count: usize) -> Result<(), AllocError>
     ensures { OnOk result (out.new.items ≡ out.old.items ++ number_text count) }
 {
-    if count <= MOST_COUNTED {
+    if count <= MOST_VERSIONS {
         push_number(out, count)
     } else {
         out.extend_from_slice(b"more than 1000")
@@ -279,7 +280,7 @@ fn push_changed(out: &mut Vec<u8>, object: ObjectId, changed: &[OpId]) -> Result
 fn push_drawing(out: &mut Vec<u8>, shown: usize) -> Result<(), AllocError>
     ensures { OnOk result (out.new.items ≡ out.old.items ++ drawing_line shown) }
 {
-    if MOST_COUNTED < shown {
+    if MOST_VERSIONS < shown {
         push_many(out)?;
     }
     Ok(())

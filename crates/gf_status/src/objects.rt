@@ -5,13 +5,13 @@ ghost use Rattle.gf_groups.specs.declared.group.Group.{Group};
 ghost use Rattle.gf_groups.specs.Versions.{IsMade};
 ghost use Rattle.gf_status.specs.ObjectStatuses.{AreStatuses, IsObjectStatus};
 
-use crate::counting::MOST_COUNTED;
 use crate::differing::{Difference, differences};
 use crate::hidden::hidden_of;
 use crate::positions::{creations, rising};
 use gf_base::OutOfMemory;
 use gf_ops::{Ids, ObjectId};
 use gf_table::VersionedHistory;
+use gf_versions::MOST_VERSIONS;
 use gf_visible::visible_groups;
 use std::alloc::Global;
 
@@ -64,7 +64,7 @@ fn object_status(
 {
     let history = versions.history();
     let count = versions.count(object);
-    match visible_groups(alloc, versions, object, MOST_COUNTED)? {
+    match visible_groups(alloc, versions, object, MOST_VERSIONS)? {
         Some(groups) => {
             let all = versions.positions(alloc, object)?;
             let hidden = hidden_of(alloc, history, object, &all, &groups)?;
@@ -80,7 +80,7 @@ fn object_status(
         None => Ok(ObjectStatus {
             object,
             versions: count,
-            shown: MOST_COUNTED + 1,
+            shown: MOST_VERSIONS + 1,
             differences: Vec::new(alloc),
             hidings: Ids::new(Vec::new(alloc)),
             changed: Ids::new(Vec::new(alloc)),

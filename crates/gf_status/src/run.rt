@@ -8,7 +8,7 @@ ghost use Rattle.gf_studio.specs.RunAnswers.{LeavesSink, ReadsInput};
 ghost use Rattle.gf_status.specs.StatusRun.{DenotesStatus, IsStatusOf, TellsStatus, WritesStatus};
 ghost use Rattle.gf_status.specs.StatusLines.{are_clean, is_at_most_one, is_clean, state_of};
 
-use crate::counting::{MOST_COUNTED, shown_in};
+use crate::counting::shown_in;
 use crate::lines::status_text;
 use crate::{ObjectStatus, State, object_statuses};
 use gf_base::OutOfMemory;
@@ -17,6 +17,7 @@ use gf_replay::read_replica;
 use gf_site::Replica;
 use gf_streams::{Sink, SinkFault, Source, write_whole};
 use gf_studio::{StudioError, input};
+use gf_versions::MOST_VERSIONS;
 use std::alloc::Global;
 use std::thread::Threads;
 
@@ -126,7 +127,7 @@ fn state_of(waiting: &[&Op], objects: &[ObjectStatus]) -> State
 fn are_clean(waiting: &[&Op], objects: &[ObjectStatus]) -> bool
     ensures { result ≡ are_clean (map (λ a. a.now) waiting.now) objects.now }
 {
-    waiting.is_empty() && all_clean(objects) && shown_in(objects) <= MOST_COUNTED
+    waiting.is_empty() && all_clean(objects) && shown_in(objects) <= MOST_VERSIONS
 }
 
 fn all_clean(objects: &[ObjectStatus]) -> bool

@@ -1,10 +1,10 @@
 -- What a run makes of the history that its bytes denote (this project's choice).
 use Rattle.std.specs.Prelude.{◌≡◌, ◌<◌, ◌≤◌, ℕ, List, length, Option, ⊤}
-use Rattle.gf_drawing.specs.declared.compiling.TheConstants.{MOST_VERSIONS}
 use Rattle.gf_shape.specs.declared.any_shape.AnyShape.{AnyShape}
 use Rattle.gf_shape.specs.Outlines.{any_outline}
 use Rattle.gf_ops.specs.declared.op.ObjectId.{ObjectId}
 use Rattle.gf_ops.specs.declared.op.Op.{Op}
+use Rattle.gf_versions.specs.declared.ranking.TheConstants.{MOST_VERSIONS}
 use Rattle.gf_versions.specs.declared.placed.Placed.{Placed}
 use Rattle.gf_versions.specs.Ranking.{AreRanked}
 use Rattle.gf_figures.specs.DrawingState.{DrawingState}

@@ -13,14 +13,14 @@ ghost use Rattle.gf_studio.specs.PaintRun.{IsMeant};
 ghost use Rattle.gf_studio.specs.RunAnswers.{ReadsInput};
 
 use crate::StudioError;
-use gf_drawing::{CompileFault, MOST_VERSIONS, compile};
+use gf_drawing::{CompileFault, compile};
 use gf_fig_read::read_fig;
 use gf_figures::Drawing;
 use gf_replay::read_replica;
 use gf_shape::{AnyShape, OutOfMemory, Outline};
 use gf_site::Replica;
 use gf_streams::{Source, read_input};
-use gf_versions::Ranked;
+use gf_versions::{MOST_VERSIONS, Ranked};
 use gf_visible::ranked_within;
 use std::alloc::Global;
 use std::thread::Threads;

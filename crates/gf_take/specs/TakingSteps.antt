@@ -1,7 +1,6 @@
 -- What one change does to a site and to the list of what it made. No public clause cites this
 -- module.
 use Rattle.std.specs.Prelude.{◌≡◌, ◌≢◌, ℕ, List, [], ◌∷◌, ◌++◌, ⊤, All}
-use Rattle.gf_drawing.specs.declared.compiling.TheConstants.{MOST_VERSIONS}
 use Rattle.gf_shape.specs.declared.outline.Outline.{Outline}
 use Rattle.gf_shape.specs.ShapeLaws.{IsLawful}
 use Rattle.gf_ops.specs.declared.op.Op.{Op}
@@ -9,6 +8,7 @@ use Rattle.gf_ops.specs.declared.change.Change.{Change}
 use Rattle.gf_site.specs.SiteState.{SiteState}
 use Rattle.gf_site.specs.Events.{Authors, Refuses}
 use Rattle.gf_site.specs.declared.faults.AuthorFault.TheVariants as fault
+use Rattle.gf_versions.specs.declared.ranking.TheConstants.{MOST_VERSIONS}
 use Rattle.gf_visible.specs.ShownVersions.{HasMoreVisible}
 use Rattle.gf_take.specs.declared.take_error.TakeError.{TakeError}
 use Rattle.gf_take.specs.declared.take_error.TakeError.TheVariants as take

@@ -10,11 +10,11 @@ ghost use Rattle.gf_take.specs.TakingSteps.{RefusesShowing};
 
 use crate::TakeError;
 use crate::matching::{look_alike, show_figures};
-use gf_drawing::MOST_VERSIONS;
 use gf_figures::Drawing;
 use gf_ops::{Change, Op};
 use gf_shape::Outline;
 use gf_site::{AuthorFault, Site};
+use gf_versions::MOST_VERSIONS;
 use gf_visible::ranked_within;
 use std::alloc::Global;
 

@@ -1,6 +1,5 @@
 -- What the run of a take writes, and why it is refused (this project's choice).
 use Rattle.std.specs.Prelude.{◌≡◌, ◌⊎◌, ◌<◌, ℕ, List, Option, None, Some, length, ⊤}
-use Rattle.gf_drawing.specs.declared.compiling.TheConstants.{MOST_VERSIONS}
 use Rattle.gf_streams.specs.TextLines.{numbered_lines}
 use Rattle.gf_ops.specs.declared.op.Op.{Op}
 use Rattle.gf_ops.specs.declared.op.OpId.{OpId}
@@ -9,6 +8,7 @@ use Rattle.gf_ops.specs.declared.change.Change.{Change}
 use Rattle.gf_causal.specs.Waiting.{waits_for}
 use Rattle.gf_replay.specs.Denoting.{AreLinesOf}
 use Rattle.gf_replay.specs.Waiting.{DenotesWaiting}
+use Rattle.gf_versions.specs.declared.ranking.TheConstants.{MOST_VERSIONS}
 use Rattle.gf_fig_named.specs.ThinPolygons.{AreThinOf}
 use Rattle.gf_fig_faults.specs.DrawingFaults.{AreFaults, HasFirst, most_told}
 use Rattle.gf_fig_read.specs.FaultLines.{BeginsOn}

@@ -6,10 +6,10 @@ ghost use Rattle.gf_fig_read.specs.Objects.{Drawn};
 ghost use Rattle.gf_take_run.specs.TakeSteps.{RefusesMaking};
 
 use crate::TakeRunError;
-use gf_drawing::MOST_VERSIONS;
 use gf_fig_named::thin_polygons;
 use gf_ops::ObjectId;
 use gf_site::Site;
+use gf_versions::MOST_VERSIONS;
 use gf_visible::ranked_within;
 use std::alloc::Global;
 

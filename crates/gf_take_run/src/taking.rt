@@ -22,7 +22,6 @@ use crate::parting::{Parts, part};
 use crate::seeing::{check_age, check_known, made_since};
 use crate::{BrokenLimit, TakeRunError, Taken};
 use gf_changes::{Plan, Target, planned, targets};
-use gf_drawing::MOST_VERSIONS;
 use gf_edit::{EditError, Made, check_waiting, push_line};
 use gf_fig_faults::{drawing_faults, seen_at};
 use gf_fig_named::read_names;
@@ -35,6 +34,7 @@ use gf_shape::{OutOfMemory, Outline};
 use gf_site::{NoTable, Site};
 use gf_studio::StudioError;
 use gf_take::{TakeError, base_site, looks_like, take};
+use gf_versions::MOST_VERSIONS;
 use std::alloc::Global;
 use std::thread::Threads;
 

@@ -2,7 +2,8 @@
 //!
 //! - [`Version`] with its [`VersionKey`]: what an object looks like in one group of compatible
 //!   operations.
-//! - [`Ranked`], a list of [`Placed`]: the visible versions, topmost first.
+//! - [`Ranked`], a list of [`Placed`]: the visible versions, topmost first. A drawing takes at most
+//!   [`MOST_VERSIONS`].
 //! - [`sets`]: whether an operation gives an attribute a value.
 //! - [`settle`]: makes the version of a group, [`settle_all`] those of some groups; [`ranked`]:
 //!   lists the visible versions of a history; [`ranked_of`]: lists those of some groups.
@@ -26,5 +27,5 @@ pub use laws::{
     the_same_operations_rank_alike, versions_are_in_a_total_order,
 };
 pub use placed::{Placed, Ranked};
-pub use ranking::{ranked, ranked_of};
+pub use ranking::{MOST_VERSIONS, ranked, ranked_of};
 pub use settling::{settle, settle_all};

@@ -18,6 +18,9 @@ use gf_ops::History;
 use gf_shape::{AnyShape, OutOfMemory};
 use std::alloc::Global;
 
+/// The greatest number of visible versions that a drawing takes, one for each depth of FIG.
+pub const MOST_VERSIONS: usize = 1_000;
+
 /// The visible versions of a history, topmost first.
 pub fn ranked(alloc: Global, history: &History) -> Result<Ranked<AnyShape>, OutOfMemory>
     ensures { IfOk result (λ ranked. AreRanked history.now.ops ranked.items.items) }

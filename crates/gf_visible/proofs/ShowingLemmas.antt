@@ -1,17 +1,20 @@
 -- The choices that hold are the largest compatible sets in which each position that hides is
 -- covered, each once.
 use Rattle.std.proofs.Common.{◌≡◌, ◌≢◌, ℕ, Bool, true, false, not, ◌&&◌, ◌||◌, cond, List, [], ◌∷◌}
-use Rattle.std.proofs.Common.{◌++◌, filter, map, take, length, ◌+◌, ◌<◌, ◌≤◌, inl, inr, subst, sym}
+use Rattle.std.proofs.Common.{◌++◌, filter, map, inl, inr, subst, sym}
 use Rattle.std.proofs.Common.{ap, ◌∙◌, arith, fold}
 use Rattle.std.specs.Prelude.{◌⊎◌, All, AllPairs, Contains}
 use Rattle.std.specs.BTreeSet.{insert_key}
+use Rattle.std.specs.declared.cmp.Ordering.TheVariants.{Less}
+use Rattle.std.specs.List.{items_where_true}
+use Rattle.std.specs.List.Sorted.{IsStrictlySortedBy}
 use Rattle.std.specs.Ordering.{nat_cmp}
 use Rattle.std.specs.FinMap.{nat_cmp-IsAntisymmetric}
 use Rattle.std.proofs.lemmas.Bool.{cases_Bool, cond-true, cond-false, and_parts, and_from, or_cases}
 use Rattle.std.proofs.lemmas.Bool.{not-true, not_from_false}
 use Rattle.std.proofs.lemmas.Cmp.{nat_cmp_total}
-use Rattle.std.proofs.lemmas.List.Elements.{All-filter, filter-append}
-use Rattle.std.proofs.lemmas.List.{take_all}
+use Rattle.std.proofs.lemmas.List.Elements.{All-nil, All-cons, All-head, All-tail, filter-append}
+use Rattle.std.proofs.lemmas.List.Elements.{All-from_recursion, recursion_from_All}
 use Rattle.std.proofs.lemmas.List.Kept.{IsStrictlySortedBy-filter}
 use Rattle.gf_base.proofs.ListLemmas.{Contains-cons_cases, Contains-cons_head, Contains-cons_tail}
 use Rattle.gf_base.proofs.ListLemmas.{Contains-map, Contains-map_from, not_Contains-nil}
@@ -42,19 +45,25 @@ set_same us form = one_rising nat_cmp nat_cmp_total (fold (insert_key nat_cmp) [
       λ i. (holds_all nat_cmp nat_cmp_total nat_cmp-IsAntisymmetric us [] a).1 (inr i),
     ))
 
--- the rising numbers that pass a test, seen to the end
-module _ (t : ℕ → Bool) (us : List ℕ) (i : ℕ) (found : List ℕ) (done : length us ≤ i)
-    (is : found ≡ filter t (take i us)) where
-  whole : found ≡ filter t us
-  whole = is ∙ ap (filter t) (take_all i us done)
+-- what holds of all numbers holds of those at `true`
+pub picked_all : (P : ℕ → Type 0) (bs : List Bool) (us : List ℕ) → All P us
+    → All P (items_where_true bs us)
+picked_all P [] us all = All-nil P
+picked_all P (b ∷ bs) [] all = All-nil P
+picked_all P (false ∷ bs) (u ∷ us) all = picked_all P bs us (All-tail P u us all)
+picked_all P (true ∷ bs) (u ∷ us) all = All-cons P u (items_where_true bs us) (All-head P u us all)
+    (picked_all P bs us (All-tail P u us all))
 
-  pub kept_rising : IsRising us → IsRising found
-  kept_rising r = subst IsRising (sym whole) (IsStrictlySortedBy-filter nat_cmp t us r)
-
-pub kept_bounded : (m : ℕ) (t : ℕ → Bool) (us : List ℕ) (i : ℕ) (found : List ℕ) → length us ≤ i
-    → found ≡ filter t (take i us) → All (λ n. n + 1 < m) us → All (λ n. n + 1 < m) found
-kept_bounded m t us i found done is all = subst (All (λ n. n + 1 < m))
-    (sym (whole t us i found done is)) (All-filter t (λ n. n + 1 < m) us all)
+-- of rising numbers, those at `true` rise
+pub picked_rising : (bs : List Bool) (us : List ℕ) → IsRising us → IsRising (items_where_true bs us)
+unfolding IsStrictlySortedBy
+picked_rising [] us r = tt
+picked_rising (b ∷ bs) [] r = tt
+picked_rising (false ∷ bs) (u ∷ us) r = picked_rising bs us r.1
+picked_rising (true ∷ bs) (u ∷ us) r =
+    let P : ℕ → Type 0 = λ a. nat_cmp u a ≡ Less in
+    let above = picked_all P bs us (All-from_recursion P us r.0) in
+    (recursion_from_All P (items_where_true bs us) above, picked_rising bs us r.1)
 
 -- ---- each choice rises
 

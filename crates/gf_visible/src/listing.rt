@@ -5,10 +5,11 @@ ghost use Rattle.std.specs.Prelude.{◌+◌, All, option_map, true};
 ghost use Rattle.std.specs.List.Sorted.{IsStrictlySortedBy};
 ghost use Rattle.std.specs.Ordering.{nat_cmp};
 ghost use Rattle.gf_ops.specs.declared.op.ObjectId.{ObjectId};
-ghost use Rattle.gf_components.specs.Components.{merged, most_sets, whole};
+ghost use Rattle.gf_components.specs.Components.{merged, whole};
 ghost use Rattle.gf_groups.specs.GroupedPositions.{positions_below};
 ghost use Rattle.gf_groups.specs.Versions.{IsMade};
 ghost use Rattle.gf_table.specs.Standing.{AreComponentsOn};
+ghost use Rattle.gf_versions.specs.declared.ranking.TheConstants.{MOST_VERSIONS};
 ghost use Rattle.gf_visible.specs.Deciding.{at_most, decides, deciding, idle};
 ghost use Rattle.gf_visible.specs.Deciding.{with_deciding, with_idle};
 ghost use Rattle.gf_visible.specs.Cuts.{has_some};
@@ -236,7 +237,7 @@ pub(crate) fn shown_sets(
 ) -> Result<Option<Vec<Numbers>>, OutOfMemory>
     requires on { AreComponentsOn history.now.ops object components.now }
     requires made { IsMade history.now.ops object }
-    requires most { most ≤ most_sets }
+    requires most { most ≤ MOST_VERSIONS }
     ensures { IfOk result (λ found. IsSetListing history.now.ops
         (positions_below history.now.ops object (length history.now.ops))
         most (option_map (λ v. v.items) found)) }

@@ -3,16 +3,16 @@
 ghost use Rattle.std.specs.Prelude.{◌≤◌, ◌∷◌, [], length, Contains, IfNone, IfOk, IfSome};
 ghost use Rattle.std.specs.Prelude.{option_map};
 ghost use Rattle.gf_groups.specs.Versions.{IsMade};
-ghost use Rattle.gf_components.specs.Components.{most_sets};
+ghost use Rattle.gf_versions.specs.declared.ranking.TheConstants.{MOST_VERSIONS};
 ghost use Rattle.gf_visible.specs.ShownVersions.{AreVisibleOn, HasMoreOn};
 ghost use Rattle.gf_visible.specs.VisibleSoFar.{HaveVisibleOf, IsGroupListing};
 
 use crate::listing::shown_sets;
-use gf_components::MOST_SETS;
 use gf_groups::{Group, GroupFault, add_groups};
 use gf_ops::{Change, ObjectId, Op};
 use gf_shape::OutOfMemory;
 use gf_table::VersionedHistory;
+use gf_versions::MOST_VERSIONS;
 use std::alloc::Global;
 
 /// The groups of the visible versions of an object that the history made, each once. None where
@@ -29,7 +29,7 @@ pub fn visible_groups(
     most: usize,
 ) -> Result<Option<Vec<Group>>, OutOfMemory>
     requires made { IsMade versions.now object }
-    requires most { most ≤ most_sets }
+    requires most { most ≤ MOST_VERSIONS }
     ensures groups { IfOk result (λ found.
         IfSome found (λ groups. AreVisibleOn versions.now object groups.items)) }
     ensures few { IfOk result (λ found. IfSome found (λ groups. length groups.items ≤ most)) }
@@ -54,7 +54,7 @@ pub(crate) fn visible_made(
     most: usize,
 ) -> Result<Option<Vec<Group>>, OutOfMemory>
     requires contained { Contains versions.now op.now }
-    requires most { most ≤ most_sets }
+    requires most { most ≤ MOST_VERSIONS }
     ensures { IfOk result (λ found.
         IsGroupListing versions.now (op.now ∷ []) most (option_map (λ v. v.items) found)) }
 {
@@ -86,7 +86,7 @@ fn versions_made(
 }
 
 /// The groups of the versions of an object, if an operation of the history made it. They are the
-/// visible ones where these are at most [`MOST_SETS`], and else all.
+/// visible ones where these are at most [`MOST_VERSIONS`], and else all.
 pub(crate) fn visible_or_all(
     alloc: Global,
     versions: &VersionedHistory<'_>,
@@ -95,7 +95,7 @@ pub(crate) fn visible_or_all(
     requires contained { Contains versions.now op.now }
     ensures { IfOk result (λ groups. HaveVisibleOf versions.now (op.now ∷ []) groups.items) }
 {
-    match visible_made(alloc, versions, op, MOST_SETS)? {
+    match visible_made(alloc, versions, op, MOST_VERSIONS)? {
         Some(groups) => Ok(groups),
         None => versions_made(alloc, versions, op),
     }

@@ -1,10 +1,10 @@
 //! The visible versions of a history, ranked: all, or unless they are too many.
 
 ghost use Rattle.std.specs.Prelude.{◌≤◌, length, IfNone, IfOk, IfSome, option_map};
-ghost use Rattle.gf_components.specs.Components.{most_sets};
 ghost use Rattle.gf_visible.specs.ShownVersions.{HasMoreVisible};
 ghost use Rattle.gf_visible.specs.VisibleSoFar.{HaveVisibleOf, IsGroupListing};
 ghost use Rattle.gf_table.specs.Standing.{StandsFor};
+ghost use Rattle.gf_versions.specs.declared.ranking.TheConstants.{MOST_VERSIONS};
 ghost use Rattle.gf_versions.specs.Ranking.{AreRanked};
 
 use crate::objects::{visible_made, visible_or_all};
@@ -64,7 +64,7 @@ pub fn ranked_within(
     versions: &VersionedHistory<'_>,
     most: usize,
 ) -> Result<Option<Ranked<AnyShape>>, OutOfMemory>
-    requires { most ≤ most_sets }
+    requires { most ≤ MOST_VERSIONS }
     ensures ranked { IfOk result (λ found.
         IfSome found (λ ranked. AreRanked versions.now ranked.items.items)) }
     ensures few { IfOk result (λ found. IfSome found (λ ranked. length ranked.items.items ≤ most)) }
@@ -84,7 +84,7 @@ fn all_visible(
     versions: &VersionedHistory<'_>,
     most: usize,
 ) -> Result<Option<Vec<Group>>, OutOfMemory>
-    requires { most ≤ most_sets }
+    requires { most ≤ MOST_VERSIONS }
     ensures { IfOk result (λ found.
         IsGroupListing versions.now versions.now most (option_map (λ v. v.items) found)) }
 {

@@ -2,6 +2,8 @@
 
 ghost use Rattle.std.specs.Prelude.{◌≡◌, ◌<◌, ◌+◌, ◌^◌, ◌∷◌, [], ℕ, Bool, All, IfOk};
 ghost use Rattle.std.specs.Prelude.{cond, filter, map, take};
+ghost use Rattle.std.specs.Fn.{CalledAt};
+ghost use Rattle.std.specs.List.Retain.{IsFiltered};
 ghost use Rattle.std.specs.List.Sorted.{IsStrictlySortedBy};
 ghost use Rattle.std.specs.Ordering.{nat_cmp};
 ghost use Rattle.gf_visible.specs.Choices.{showing, step_of};
@@ -47,6 +49,22 @@ pub(crate) fn set_of(alloc: Global, positions: &[usize]) -> Result<Numbers, OutO
     Numbers::of(alloc, positions)
 }
 
+/// The rising positions that pass a test, as a set.
+pub(crate) fn filtered<F: FnMut(&usize) -> bool>(
+    alloc: Global,
+    positions: &[usize],
+    test: F,
+) -> Result<Numbers, OutOfMemory>
+    requires rising { IsStrictlySortedBy nat_cmp positions.now }
+    requires bounded { All (λ n. n + 1 < 2 ^ 64) positions.now }
+    requires callable { F.IsAlwaysCallable test }
+    ensures { IfOk result (λ found. IsFiltered (CalledAt F.FnMut) test positions.now found) }
+{
+    let mut found = Vec::from_slice(alloc, positions)?;
+    found.retain(test);
+    set_of(alloc, &found)
+}
+
 /// The positions that conflict with this position.
 fn rivals_of<T: Showing>(
     alloc: Global,
@@ -59,13 +77,7 @@ fn rivals_of<T: Showing>(
     ensures { IfOk result (λ found. found
         ≡ filter (T.rivals setters.now position) positions.now) }
 {
-    let mut found = Vec::new(alloc);
-    for other in positions {
-        if setters.rivals(position, *other) {
-            found.push(*other)?;
-        }
-    }
-    set_of(alloc, &found)
+    filtered(alloc, positions, |other| setters.rivals(position, *other))
 }
 
 /// The positions that cover this position.
@@ -80,13 +92,7 @@ fn covers_of<T: Showing>(
     ensures { IfOk result (λ found. found
         ≡ filter (T.covers setters.now position) positions.now) }
 {
-    let mut found = Vec::new(alloc);
-    for other in positions {
-        if setters.covers(position, *other) {
-            found.push(*other)?;
-        }
-    }
-    set_of(alloc, &found)
+    filtered(alloc, positions, |other| setters.covers(position, *other))
 }
 
 /// The positions that cover this position, if that hides.

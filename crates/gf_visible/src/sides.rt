@@ -15,7 +15,7 @@ ghost use Rattle.gf_visible.specs.TwoSides.{hidden, shown};
 
 use crate::deciding::last_setters;
 use crate::saying::{hides_at, shown_by};
-use crate::setters::set_of;
+use crate::setters::filtered;
 use gf_groups::before_at;
 use gf_maximal::Numbers;
 use gf_ops::{History, Op};
@@ -115,13 +115,11 @@ pub(crate) fn rivals_of(
     requires bounded { All (λ n. n + 1 < 2 ^ 64) showings.now }
     ensures { IfOk result (λ set. set ≡ rivals_of history.now.ops showings.now hiding) }
 {
-    let mut found = Vec::new(alloc);
-    for showing in showings {
-        if are_rivals(history, hiding, *showing) {
-            found.push(*showing)?;
-        }
-    }
-    set_of(alloc, &found)
+    filtered(
+        alloc,
+        showings,
+        |showing| are_rivals(history, hiding, *showing),
+    )
 }
 
 /// The showings that the hiding does not know.
@@ -135,13 +133,11 @@ fn missed(
     requires bounded { All (λ n. n + 1 < 2 ^ 64) showings.now }
     ensures { IfOk result (λ set. set ≡ missed history.now.ops showings.now hiding) }
 {
-    let mut found = Vec::new(alloc);
-    for showing in showings {
-        if !before_at(history, *showing, hiding) {
-            found.push(*showing)?;
-        }
-    }
-    set_of(alloc, &found)
+    filtered(
+        alloc,
+        showings,
+        |showing| !before_at(history, *showing, hiding),
+    )
 }
 
 /// The showings that each of these hidings does not know.

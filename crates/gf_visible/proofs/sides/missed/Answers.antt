@@ -1,16 +1,8 @@
-use Rattle.std.proofs.Common.{not, ◌∙◌}
-use Rattle.gf_visible.specs.SettersAt.{knows_at}
-use Rattle.gf_visible.proofs.ShowingLemmas.{kept_bounded, kept_rising}
+use Rattle.std.proofs.Common.{rules}
+use Rattle.std.proofs.lemmas.Fn.{filter_same}
+use Rattle.std.proofs.lemmas.Result.{IfOk-weaker}
 use Rattle.gf_visible.proofs.sides.missed.Goals as goal
 
-pub set_of-requires-clause-rising : goal.set_of-requires-clause-rising
-set_of-requires-clause-rising c =
-    kept_rising (λ x. not (knows_at c.args.history.now.ops c.args.hiding x)) c.args.showings.now
-    c.loop-showing.showing-index c.deref.result.now
-    c.loop-showing-test.false (c.deref.ensures.value ∙ c.loop-showing.invariant) c.requires.rising
-
-pub set_of-requires-clause-bounded : goal.set_of-requires-clause-bounded
-set_of-requires-clause-bounded c =
-    kept_bounded 18446744073709551616 (λ x. not (knows_at c.args.history.now.ops c.args.hiding x))
-    c.args.showings.now c.loop-showing.showing-index c.deref.result.now
-    c.loop-showing-test.false (c.deref.ensures.value ∙ c.loop-showing.invariant) c.requires.bounded
+pub returns : goal.returns
+returns c = IfOk-weaker c.filtered.result _ _
+    (λ found k. filter_same _ _ _ (λ x b f' k. search rules) _ _ k) c.filtered.ensures
