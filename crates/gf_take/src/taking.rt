@@ -72,7 +72,8 @@ fn make(site: &mut Site, ops: &mut Vec<Op>, change: Change) -> Result<(), TakeEr
 pub fn looks_like(alloc: Global, site: &Site, drawing: &Drawing<Outline>) -> Result<bool, TakeError>
     ensures alike { IfOk result (λ alike. alike ≡ true → LooksLike site.now.ops drawing.now) }
     ensures other { IfOk result (λ alike. alike ≡ false
-        → All (λ f. IsLawful f.shape) drawing.now.figures → ¬ (LooksLike site.now.ops drawing.now)) }
+        → All (λ f. IsLawful f.shape) drawing.now.figures
+        → ¬ (LooksLike site.now.ops drawing.now)) }
     ensures err { IfErr result
         (RefusesTake site.now.number site.now.ops [] drawing.now) }
 {

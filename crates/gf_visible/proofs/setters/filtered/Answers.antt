@@ -1,5 +1,5 @@
 use Rattle.std.proofs.Common.{◌∙◌, ◌+◌, ◌<◌, ℕ, All, sym, subst}
-use Rattle.gf_maximal.specs.Tables.{IsRising}
+use Rattle.gf_maximal.specs.LargestSets.{IsRising}
 use Rattle.gf_visible.proofs.ShowingLemmas.{picked_all, picked_rising}
 use Rattle.gf_visible.proofs.setters.filtered.Goals as goal
 
