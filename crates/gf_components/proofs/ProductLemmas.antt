@@ -265,9 +265,9 @@ largest_alone c us form calm = record {
 }
 
 -- a table is one of whatever list has the same positions
-pub largest_alike : (c : ℕ → ℕ → Bool) (us vs : List ℕ) (gs : List (List ℕ))
+pub largest_sets_alike : (c : ℕ → ℕ → Bool) (us vs : List ℕ) (gs : List (List ℕ))
     → ((a : ℕ) → Contains us a ↔ Contains vs a) → AreLargestSets c us gs → AreLargestSets c vs gs
-largest_alike c us vs gs same t = record {
+largest_sets_alike c us vs gs same t = record {
   each = λ g. (
     λ h. let m = (t.each g).0 h in (
       m.0,

@@ -16,7 +16,7 @@ use Rattle.gf_components.specs.Components.{whole}
 use Rattle.gf_maximal.specs.Growing as words
 use Rattle.gf_components.specs.Separate.{Apart, AreComponents, IsComponent, AreSetsKept}
 use Rattle.gf_components.proofs.ComponentLemmas.{all_of_merged}
-use Rattle.gf_components.proofs.ProductLemmas.{largest_alike, largest_alone, largest_product}
+use Rattle.gf_components.proofs.ProductLemmas.{largest_sets_alike, largest_alone, largest_product}
 use Rattle.gf_groups.specs.Growing.{conflict_at, groups_at}
 use Rattle.gf_groups.specs.GroupedPositions.{group_at, positions_below}
 use Rattle.gf_groups.specs.Versions.{IsMade}
@@ -47,7 +47,8 @@ module _ (c : ℕ → ℕ → Bool) (s : IsConflict c) where
   table_fold p gs (q ∷ ps) x ys ws zs =
       let w = ws q (Contains-cons_head q ps) in
       table_fold (merged p q) (products gs (full c q)) ps
-      (largest_alike c (words.united p.all q.all) (merged p q).all (products gs (full c q)) (λ a. (
+      (largest_sets_alike c (words.united p.all q.all) (merged p q).all (products gs (full c q))
+      (λ a. (
         λ h. (all_of_merged p q a).1 ((Contains-united p.all q.all a).0 h),
         λ h. (Contains-united p.all q.all a).1 ((all_of_merged p q a).0 h),
       )) (largest_product c s p.all q.all w gs (full c q) x
@@ -70,7 +71,7 @@ module _ (c : ℕ → ℕ → Bool) (s : IsConflict c) where
 module _ (h : List Op) (o : ObjectId) (t : ComponentsState) (on : AreComponentsOn h o t) where
   pub sets_listed : AreLargestSets (conflict_at h) (positions_below h o (length h))
       (listed (conflict_at h) t)
-  sets_listed = largest_alike (conflict_at h) (whole t).all (positions_below h o (length h))
+  sets_listed = largest_sets_alike (conflict_at h) (whole t).all (positions_below h o (length h))
       (listed (conflict_at h) t) on.all (table_listed (conflict_at h) (conflict_at_test h) t
       on.components)
 

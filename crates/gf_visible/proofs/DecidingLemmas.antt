@@ -26,7 +26,7 @@ use Rattle.gf_base.proofs.FilterLemmas.{list_any_true, list_any_false}
 use Rattle.gf_maximal.proofs.UnitedLemmas.{Contains-united}
 use Rattle.gf_components.specs.Components.{ComponentsState, products, whole}
 use Rattle.gf_components.proofs.ProductLemmas.{Contains-products, Contains-products_from}
-use Rattle.gf_components.proofs.ProductLemmas.{products_once, largest_alike, largest_product}
+use Rattle.gf_components.proofs.ProductLemmas.{products_once, largest_sets_alike, largest_product}
 use Rattle.gf_visible.specs.Choices.{AreShowing, IsCovered}
 use Rattle.gf_table.specs.Standing.{AreComponentsOn}
 use Rattle.gf_versions.proofs.VersionLemmas.{some_version}
@@ -148,7 +148,7 @@ module _ (h : List Op) (o : ObjectId) (t : ComponentsState) (on : AreComponentsO
 
     halves : AreLargestSets (conflict_at h) (positions_below h o (length h))
         (products (groups_at (conflict_at h) (deciding h (lasts h t.free) t)) ks)
-    halves = largest_alike c (united first second) us (products all ks) (both_halves h o t on)
+    halves = largest_sets_alike c (united first second) us (products all ks) (both_halves h o t on)
         (largest_product c (conflict_at_test h) first second (halves_apart h o t on) all ks table
         others)
 
