@@ -152,7 +152,7 @@ module _ (h : List Op) (o : ObjectId) where
         on_it : (n : ℕ) → Contains (whole t.components).all n → is_on o (slice_get h (f n)) ≡ true
         on_it n j = elim ((s.exactly n).0 j) [
           | inl e ↦ subst (λ z. is_on o (slice_get h (f z)) ≡ true) (sym e)
-              (subst (λ z. is_on o (slice_get h z) ≡ true) (sym (maker_position h o t s.logs))
+              (subst (λ z. is_on o (slice_get h z) ≡ true) (sym (maker_position h o t s.logged))
               (stands_on t.maker s.maker.op s.maker.at
               (λ i. record {
                 0 = (made_object s.maker.op.id s.maker.op.change s.maker.kind s.maker.made
@@ -161,7 +161,7 @@ module _ (h : List Op) (o : ObjectId) where
           | inr w ↦
               let k = setter_at h o t s n w.0 w.1 in
               subst (λ z. is_on o (slice_get h z) ≡ true)
-              (sym (number_at h o t s.logs n w.0 w.1))
+              (sym (number_at h o t s.logged n w.0 w.1))
               (stands_on w.0 k.0 k.1 (ap (changed_object k.0.id) k.4))
         ]
 
@@ -180,12 +180,12 @@ module _ (h : List Op) (o : ObjectId) where
                 ∙ ap (λ z. Some z) (sym one)) in (
                   maker_number,
                   (s.exactly maker_number).1 (inl refl),
-                  same ∙ sym (maker_position h o t s.logs),
+                  same ∙ sym (maker_position h o t s.logged),
                 )
             by_change (Set p v aim) e =
                 let named : p ≡ o = ap (changed_object b.id) (sym e) ∙ on in
-                let k = s.logs.all i b v aim at (subst (λ z. b.change ≡ Set z v aim) named e) in
-                (k.0, (s.exactly k.0).1 (inr (i, k.1)), sym (number_at h o t s.logs k.0 i k.1))
+                let k = s.logged.all i b v aim at (subst (λ z. b.change ≡ Set z v aim) named e) in
+                (k.0, (s.exactly k.0).1 (inr (i, k.1)), sym (number_at h o t s.logged k.0 i k.1))
 
         numbered : (i : ℕ) → is_on o (slice_get h i) ≡ true → Made f (whole t.components).all i
         numbered i y = let w = on_op o (slice_get h i) y in of_op i w.0 w.1 w.2

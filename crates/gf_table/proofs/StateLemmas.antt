@@ -92,11 +92,11 @@ module _ (h : List Op) (o : ObjectId) (t : ObjectState) (s : IsStateOf h o t) wh
   pub setter_at : (n q : ℕ) → IsNumber t.logs n q → (op : Op) × (slice_get h q ≡ Some op)
       × (v : Value) × (aim : List OpId) × (op.change ≡ Set o v aim)
   setter_at n q k =
-      let i = s.logs.each k.attribute k.site k.index k.setter k.within k.at in
+      let i = s.logged.each k.attribute k.site k.index k.setter k.within k.at in
       (i.op, subst (λ z. slice_get h z ≡ Some i.op) k.position i.at, i.value, i.aim, i.change)
 
   number_within : (n q : ℕ) → IsNumber t.logs n q → q < length h
-  number_within n q k = numbers.number_within h o t.logs s.logs n q k
+  number_within n q k = numbers.number_within h o t.logs s.logged n q k
 
   maker_within : t.maker < length h
   maker_within = slice_get_within h t.maker s.maker.op s.maker.at
@@ -105,8 +105,8 @@ module _ (h : List Op) (o : ObjectId) (t : ObjectState) (s : IsStateOf h o t) wh
   pub position_within : (n : ℕ) → Contains (whole t.components).all n → position_in t n < length h
   position_within n i = elim ((s.exactly n).0 i) [
     | inl e ↦ subst (λ z. position_in t z < length h) (sym e)
-        (subst (λ z. z < length h) (sym (maker_position h o t s.logs)) maker_within)
-    | inr w ↦ subst (λ z. z < length h) (sym (number_at h o t s.logs n w.0 w.1))
+        (subst (λ z. z < length h) (sym (maker_position h o t s.logged)) maker_within)
+    | inr w ↦ subst (λ z. z < length h) (sym (number_at h o t s.logged n w.0 w.1))
         (number_within n w.0 w.1)
   ]
 
@@ -115,7 +115,7 @@ module _ (h : List Op) (o : ObjectId) (t : ObjectState) (s : IsStateOf h o t) wh
   all_within n = by_case (position_of t.logs n) refl
     where
       by_case : (r : Option ℕ) → position_of t.logs n ≡ r → unwrap_or r t.maker < length h
-      by_case (Some q) e = number_within n q (number_from h o t.logs s.logs n q e)
+      by_case (Some q) e = number_within n q (number_from h o t.logs s.logged n q e)
       by_case None e = maker_within
 
   not_set : (q : ℕ) (n : ℕ) → IsNumber t.logs n q → t.maker ≢ q
@@ -135,16 +135,16 @@ module _ (h : List Op) (o : ObjectId) (t : ObjectState) (s : IsStateOf h o t) wh
   one_number i j a b e = elim ((s.exactly i).0 a) [
     | inl x ↦ elim ((s.exactly j).0 b) [
       | inl y ↦ x ∙ sym y
-      | inr w ↦ absurd (not_set w.0 j w.1 (sym (maker_position h o t s.logs)
-          ∙ (ap (position_in t) (sym x) ∙ (e ∙ number_at h o t s.logs j w.0 w.1))))
+      | inr w ↦ absurd (not_set w.0 j w.1 (sym (maker_position h o t s.logged)
+          ∙ (ap (position_in t) (sym x) ∙ (e ∙ number_at h o t s.logged j w.0 w.1))))
     ]
     | inr v ↦ elim ((s.exactly j).0 b) [
-      | inl y ↦ absurd (not_set v.0 i v.1 (sym (maker_position h o t s.logs)
-          ∙ (ap (position_in t) (sym y) ∙ (sym e ∙ number_at h o t s.logs i v.0 v.1))))
+      | inl y ↦ absurd (not_set v.0 i v.1 (sym (maker_position h o t s.logged)
+          ∙ (ap (position_in t) (sym y) ∙ (sym e ∙ number_at h o t s.logged i v.0 v.1))))
       | inr w ↦
-          let q : v.0 ≡ w.0 = sym (number_at h o t s.logs i v.0 v.1)
-          ∙ (e ∙ number_at h o t s.logs j w.0 w.1) in
-          numbers.one_number h o t.logs s.logs i j w.0 (subst (IsNumber t.logs i) q v.1) w.1
+          let q : v.0 ≡ w.0 = sym (number_at h o t s.logged i v.0 v.1)
+          ∙ (e ∙ number_at h o t s.logged j w.0 w.1) in
+          numbers.one_number h o t.logs s.logged i j w.0 (subst (IsNumber t.logs i) q v.1) w.1
     ]
   ]
 
@@ -166,9 +166,9 @@ module _ (h : List Op) (o : ObjectId) (t : ObjectState) (s : IsStateOf h o t) wh
         → ((v : Value) (aim : List OpId) → a.change ≢ Set o v aim) → IsStateOf longer o t
     state_kept valid in_range accepted n = record {
       maker = maker_still;
-      logs = logs_other h o t.logs s.logs a n;
-      index = if_some t.index (λ ix. index_other h o t.logs s.logs a ix) s.index;
-      aimed = aimed_other h o t.logs s.logs a t.aimed s.aimed;
+      logged = logs_other h o t.logs s.logged a n;
+      index = if_some t.index (λ ix. index_other h o t.logs s.logged a ix) s.index;
+      aimed = aimed_other h o t.logs s.logged a t.aimed s.aimed;
       components = components_agree (number_conflict h t) (number_conflict longer t) t.components
           (λ i j k l. same_conflict h a valid in_range accepted (position_in t i) (position_in t j)
           (position_within i k) (position_within j l)) s.components;
@@ -201,35 +201,35 @@ module _ (h : List Op) (o : ObjectId) (t : ObjectState) (s : IsStateOf h o t) wh
           maker = t.maker;
         }
 
-        logs : AreLogsOf longer o logs
-        logs = logs_setter h o t.logs s.logs a valid in_range accepted v change
+        logged : AreLogsOf longer o logs
+        logged = logs_setter h o t.logs s.logged a valid in_range accepted v change
 
         cases : (n q : ℕ) → IsNumber logs n q → IsNumber t.logs n q ⊎ ((n ≡ x) × (q ≡ length h))
-        cases n q k = number_cases h o t.logs s.logs a valid in_range accepted v change n q k
+        cases n q k = number_cases h o t.logs s.logged a valid in_range accepted v change n q k
 
         new_number : IsNumber logs x (length h)
-        new_number = last_number h o t.logs s.logs a valid in_range accepted v change
+        new_number = last_number h o t.logs s.logged a valid in_range accepted v change
 
         old_number : (n q : ℕ) → IsNumber t.logs n q → IsNumber logs n q
-        old_number n q k = numbered h o t.logs s.logs a valid in_range accepted v change n q k
+        old_number n q k = numbered h o t.logs s.logged a valid in_range accepted v change n q k
 
         position_new : (n q : ℕ) → IsNumber logs n q → position_in grown n ≡ q
-        position_new n q k = number_at longer o grown logs n q k
+        position_new n q k = number_at longer o grown logged n q k
 
         at_last : position_in grown x ≡ length h
         at_last = position_new x (length h) new_number
 
         at_maker : position_in grown maker_number ≡ t.maker
-        at_maker = maker_position longer o grown logs
+        at_maker = maker_position longer o grown logged
 
         -- what was there stays where it was
         as_before : (n : ℕ) → Contains (whole t.components).all n
             → position_in grown n ≡ position_in t n
         as_before n i = elim ((s.exactly n).0 i) [
           | inl e ↦ subst (λ z. position_in grown z ≡ position_in t z) (sym e)
-              (at_maker ∙ sym (maker_position h o t s.logs))
+              (at_maker ∙ sym (maker_position h o t s.logged))
           | inr w ↦ position_new n w.0 (old_number n w.0 w.1)
-              ∙ sym (number_at h o t s.logs n w.0 w.1)
+              ∙ sym (number_at h o t s.logged n w.0 w.1)
         ]
 
         before : AreComponents (number_conflict longer grown) t.components
@@ -250,7 +250,7 @@ module _ (h : List Op) (o : ObjectId) (t : ObjectState) (s : IsStateOf h o t) wh
         known_maker b at k =
             let mine : s.maker.op ≡ b = let y = s.maker.at in cc in
             let m = made_by s.maker.op.change s.maker.kind s.maker.made in
-            maker_calm h o t.logs s.logs valid a accepted v change b
+            maker_calm h o t.logs s.logged valid a accepted v change b
             (contained_at h t.maker b at) m.0 (ap (λ (z : Op). z.change) (sym mine) ∙ m.1) k
 
         conflict_last : (n q : ℕ) → position_in grown n ≡ q
@@ -301,7 +301,7 @@ module _ (h : List Op) (o : ObjectId) (t : ObjectState) (s : IsStateOf h o t) wh
         pub state_more : IsStateOf longer o grown
         state_more = record {
           maker = maker_still;
-          logs = logs;
+          logged = logged;
           index = index;
           aimed = aimed;
           components = step.0;
@@ -335,7 +335,7 @@ module _ (h : List Op) (o : ObjectId) (t : ObjectState) (s : IsStateOf h o t) (a
       → (get_or (setters t.logs u place) i e).seq < a.id.seq
   behind = subst (λ z. (i : ℕ) (e : Setter) → i < length (setters t.logs z place)
       → (get_or (setters t.logs z place) i e).seq < a.id.seq) (sym own)
-      (behind_all h o t.logs s.logs a valid in_range accepted v change)
+      (behind_all h o t.logs s.logged a valid in_range accepted v change)
 
   aimed_added : (us : List ℕ) (is : List OpId) → aim_of a ≡ is → AreNumbersOf h t.logs is us →
       AreAimed (h ++ a ∷ []) (with_setter t.logs (attribute_of v) place
@@ -345,9 +345,9 @@ module _ (h : List Op) (o : ObjectId) (t : ObjectState) (s : IsStateOf h o t) (a
             (length (setters t.logs (attribute_of v) place));
         aim = us;
       }) t.aimed)
-  aimed_added us [] e f = aimed_none h o t.logs s.logs a valid in_range accepted v change
+  aimed_added us [] e f = aimed_none h o t.logs s.logged a valid in_range accepted v change
       t.aimed s.aimed e
-  aimed_added us (i ∷ is) e f = aimed_more h o t.logs s.logs a valid in_range accepted v change
+  aimed_added us (i ∷ is) e f = aimed_more h o t.logs s.logged a valid in_range accepted v change
       t.aimed us s.aimed (subst (λ z. AreNumbersOf h t.logs z us) (sym e) f)
 
   pub state_added : (d : List ℕ) → ((n : ℕ) → Contains d n ↔ ConflictsAt h t.logs a n)
@@ -374,7 +374,7 @@ module _ (h : List Op) (o : ObjectId) (t : ObjectState) (s : IsStateOf h o t) (a
       let last : n ≡ log_number (log_of (attribute_of v) place)
       (length (setters t.logs (attribute_of v) place)) = number
       ∙ ap (λ z. log_number (log_of z place) (length (setters t.logs z place))) own in
-      let tells_new = if_some i (λ new w. index_setter h o t.logs s.logs a valid in_range
+      let tells_new = if_some i (λ new w. index_setter h o t.logs s.logged a valid in_range
       accepted v change w.0 new w.1 (subst (λ z. PutsNumber w.0 (fingerprint_of v) z new) last w.2))
       index in
       let es = with_aim (aim_of a)
@@ -419,7 +419,7 @@ module _ (h : List Op) (a : Op) (o : ObjectId) (k : Kind) (id : a.id ≡ o.0)
   pub state_made : IsStateOf (h ++ a ∷ []) o new
   state_made = record {
     maker = record { op = a; at = got_last h a; id = id; kind = k; made = is_made };
-    logs = record {
+    logged = record {
       each = λ t s p e l i. absurd (no_number (log_number (log_of t s) p) e.position
           (record {
             attribute = t;
@@ -485,12 +485,12 @@ module _ (h : List Op) (o : ObjectId) (t : ObjectState) (s : IsStateOf h o t) (a
   -- what conflicts with one of the aim is of its component
   met_by_aim : (m n : ℕ) → Contains us m → ConflictDirectly h t.logs m n → IsRivalOfAim h t us n
   met_by_aim m n i c =
-      let w = conflict_numbers h o t.logs s.logs m n c in
+      let w = conflict_numbers h o t.logs s.logged m n c in
       let told : conflict_at h w.0 w.1 ≡ true = conflict_from h valid w.0 w.1 c.first c.second w.4
       w.5 (conflict_direct h c.first c.second c.direct) in
       let same : number_conflict h t m n ≡ true = ap (λ z. conflict_at h z (position_in t n))
-      (number_at h o t s.logs m w.0 w.2)
-      ∙ (ap (conflict_at h w.0) (number_at h o t s.logs n w.1 w.3) ∙ told) in
+      (number_at h o t s.logged m w.0 w.2)
+      ∙ (ap (conflict_at h w.0) (number_at h o t s.logged n w.1 w.3) ∙ told) in
       let r = conflict_reached (number_conflict h t) (numbers_test h t) t.components s.components us
       m n i ((s.exactly m).1 (inr (w.0, w.2))) ((s.exactly n).1 (inr (w.1, w.3))) same in
       record { reached = r.1; one = m; among = i; one_reached = r.0; conflict = c }
@@ -500,8 +500,8 @@ module _ (h : List Op) (o : ObjectId) (t : ObjectState) (s : IsStateOf h o t) (a
       ((n : ℕ) → Contains d n ↔ (Contains met n ⊎ AimsAtOne t.aimed met n)) → (n : ℕ)
       → Contains d n ↔ ConflictsAt h t.logs a n
   rivals_found own met d rivals met_are d_are =
-      aims_conflict h o t.logs s.logs valid a accepted v change t.aimed s.aimed met d
-      (aim_met h o t.logs s.logs valid a accepted v change own us met (IsRivalOfAim h t us)
-      (rivals_conflict h o t.logs s.logs valid a in_range accepted v change own rivals) are
+      aims_conflict h o t.logs s.logged valid a accepted v change t.aimed s.aimed met d
+      (aim_met h o t.logs s.logged valid a accepted v change own us met (IsRivalOfAim h t us)
+      (rivals_conflict h o t.logs s.logged valid a in_range accepted v change own rivals) are
       (λ n w. record { one = w.one; among = w.among; conflict = w.conflict }) met_by_aim met_are)
       d_are

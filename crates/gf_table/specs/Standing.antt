@@ -38,7 +38,7 @@ pub record IsMaker (h : List Op) (o : ObjectId) (m : ℕ) : Type 0 where
 -- the state is that of the operations of h on the object o
 pub record IsStateOf (h : List Op) (o : ObjectId) (t : ObjectState) : Type 0 where
   pub maker : IsMaker h o t.maker
-  pub logs : AreLogsOf h o t.logs
+  pub logged : AreLogsOf h o t.logs
   pub index : IfSome t.index (IsIndex h t.logs)
   pub aimed : AreAimed h t.logs t.aimed
   pub components : AreComponents (number_conflict h t) t.components

@@ -23,7 +23,7 @@ numbers_of-requires c =
     let s : IsStateOf c.args.history.now.ops n.object t = subst
     (IsStateOf c.args.history.now.ops n.object) (sym c.self.view_is) n.state in
     aim_named c.args.history.now.ops n.valid c.args.op.now n.accepted.aimed n.object
-    (ap (changed_object c.args.op.now.id) n.change) t.logs s.logs c.aim.result.now
+    (ap (changed_object c.args.op.now.id) n.change) t.logs s.logged c.aim.result.now
     c.aim.ensures
 
 pub rivals-requires-clause-aim : goal.rivals-requires-clause-aim

@@ -43,7 +43,7 @@ returns-in_ok-found-in-Some-clause-rivals c = λ o s.
     let there : t.index ≡ Some c.in-Some.index = c.in-Some.is in
     subst (λ (z : ObjectState). AreRivals c.args.history.now.ops o z.logs c.args.value.now
     c.args.past.now c.in_ok-found-in-Some.found) same
-    (c.in_ok-found-in-Some.ensures o c.args.past.now own.logs
+    (c.in_ok-found-in-Some.ensures o c.args.past.now own.logged
     (index_there c.args.history.now.ops o t own c.in-Some.index there) told)
 
 pub returns-in_ok-found-in-None-clause-rivals : goal.returns-in_ok-found-in-None-clause-rivals
@@ -62,7 +62,7 @@ returns-in_ok-found-in-None-clause-rivals c = λ o s.
     t.logs z c.args.past.now 8 n) c.attribute.ensures c.in_ok-unknown.ensures in
     subst (λ (z : ObjectState). AreRivals c.args.history.now.ops o z.logs c.args.value.now
     c.args.past.now c.in_ok-found-in-None.found) same
-    (c.in_ok-found-in-None.ensures o c.args.past.now own.logs c.in_ok-index-in-None.ensures told)
+    (c.in_ok-found-in-None.ensures o c.args.past.now own.logged c.in_ok-index-in-None.ensures told)
 
 pub returns-in_ok-found-in-None-clause-made : goal.returns-in_ok-found-in-None-clause-made
 returns-in_ok-found-in-None-clause-made c =
