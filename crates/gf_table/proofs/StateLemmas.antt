@@ -472,7 +472,7 @@ no_rivals h o ls v past u none f n = (
   λ w. (f n).1 w.0,
 )
 
--- an index that is there logs
+-- an index that is kept tells of the logs
 pub index_there : (h : List Op) (o : ObjectId) (t : ObjectState) → IsStateOf h o t
     → (ix : List (Fingerprint × List ℕ)) → t.index ≡ Some ix → IsIndex h t.logs ix
 index_there h o t s ix e = subst (λ r. IfSome r (IsIndex h t.logs)) e s.index
