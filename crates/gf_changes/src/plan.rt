@@ -99,7 +99,10 @@ fn count_changed(
 
 /// How many entries are matched with nothing.
 fn count_free(followers: &[Option<usize>]) -> usize {
-    followers.iter().filter(|follower| follower.is_none()).count()
+    followers
+        .iter()
+        .filter(|follower| follower.is_none())
+        .count()
 }
 
 /// The visible versions of a site from the top, if they are no more than a drawing has.

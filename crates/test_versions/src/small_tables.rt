@@ -3,7 +3,7 @@
 
 use crate::rounds::add;
 use crate::small_histories::BOX;
-use crate::table_commands::{groups, plain_groups};
+use crate::{table_commands, version_commands};
 use gf_ops::{Form, History, Op, OpId, Value};
 use gf_site::Site;
 use std::alloc::Global;
@@ -46,7 +46,9 @@ fn fill(alloc: Global, site: &mut Site, codes: &[u32]) -> Option<()> {
 
 /// Whether the table lists the groups of the box as `groups_of` does.
 pub(crate) fn agrees(alloc: Global, site: &Site) -> bool {
-    match (groups(alloc, site, "1.1"), plain_groups(alloc, site, "1.1")) {
+    let listed = table_commands::groups(alloc, site, "1.1");
+    let plain = version_commands::groups(alloc, site.history(), "1.1");
+    match (listed, plain) {
         (Some(listed), Some(plain)) => listed == plain,
         _ => false,
     }
