@@ -51,28 +51,50 @@ pub fn planned(
     let matching = matched(alloc, &before, &targets, seen)?;
     plan.changes = alterations(alloc, base.history(), &before, &targets, &matching)?;
     let copies = alterations(alloc, base.history(), &before, &targets, &matching)?;
-    let mut changed = base.copy(alloc)?;
-    for change in copies {
-        match changed.author(change) {
-            Ok(_) => {}
-            Err(AuthorFault::OutOfMemory) => return Err(OutOfMemory),
-            Err(_) => return Ok(plan),
-        }
-    }
-    let Some(versions) = visible(alloc, &changed)? else {
+    let Some(changed) = altered(alloc, base, copies)? else {
         return Ok(plan);
     };
-    let followers = followed(alloc, &before, &versions, &matching)?;
+    arrange(alloc, &changed, &before, targets, &matching, &mut plan)?;
+    Ok(plan)
+}
+
+/// A copy of the site that made these changes. None where it refuses one.
+fn altered(alloc: Global, base: &Site, changes: Vec<Change>) -> Result<Option<Site>, OutOfMemory> {
+    let mut site = base.copy(alloc)?;
+    for change in changes {
+        match site.author(change) {
+            Ok(_) => {}
+            Err(AuthorFault::OutOfMemory) => return Err(OutOfMemory),
+            Err(_) => return Ok(None),
+        }
+    }
+    Ok(Some(site))
+}
+
+/// Adds the changes of layers and the creations of new figures, as far as the site that was changed
+/// shows no more versions than a drawing has.
+fn arrange(
+    alloc: Global,
+    changed: &Site,
+    before: &[Version],
+    targets: Vec<Target>,
+    matching: &Matching,
+    plan: &mut Plan,
+) -> Result<(), OutOfMemory> {
+    let Some(versions) = visible(alloc, changed)? else {
+        return Ok(());
+    };
+    let followers = followed(alloc, before, &versions, matching)?;
     let layers = layers_for(alloc, &versions, &targets, &followers)?;
     plan.hidden = count_free(&matching.figures);
     plan.drawn = count_free(&matching.versions);
-    plan.changed = count_changed(&before, &versions, &targets, &matching, &followers, &layers);
+    plan.changed = count_changed(before, &versions, &targets, matching, &followers, &layers);
     let history = changed.history();
     let mut raised = layer_changes(alloc, history, &versions, &followers, &layers)?;
     plan.changes.append(&mut raised)?;
     let mut drawn = creations_of(alloc, targets, &followers, &layers)?;
     plan.changes.append(&mut drawn)?;
-    Ok(plan)
+    Ok(())
 }
 
 /// How many figures are versions that get another look or another layer.
