@@ -39,8 +39,10 @@ pub fn named_bytes(
     ensures versions { result ≡ Err CompileFault.TooManyVersions
         ↔ (MOST_VERSIONS < length ranked.items.items) }
     ensures colours { result ≡ Err CompileFault.TooManyColours
-        → (length ranked.items.items ≤ MOST_VERSIONS) × (512 < length (colours_of ranked.items.items)) }
-    ensures many { length ranked.items.items ≤ MOST_VERSIONS → 512 < length (colours_of ranked.items.items)
+        → (length ranked.items.items ≤ MOST_VERSIONS)
+        × (512 < length (colours_of ranked.items.items)) }
+    ensures many { length ranked.items.items ≤ MOST_VERSIONS
+        → 512 < length (colours_of ranked.items.items)
         → (result ≡ Err CompileFault.TooManyColours) ⊎ (result ≡ Err CompileFault.OutOfMemory) }
 {
     if ranked.len() > MOST_VERSIONS {
