@@ -86,9 +86,9 @@ pub record AreComponentsOn (h : List Op) (o : ObjectId) (s : ComponentsState) : 
   pub components : AreComponents (conflict_at h) s
   pub all : (i : ℕ) → Contains (whole s).all i ↔ Contains (positions_below h o (length h)) i
 
--- us are the positions of the operations of h on the object o
-abbrev pub ArePositionsOn : List Op → ObjectId → List ℕ → Type 0
-ArePositionsOn h o us = (k : ℕ) → Contains us k ↔ (is_on o (slice_get h k) ≡ true)
+-- ops are the operations of h on the object o
+abbrev pub AreOn : List Op → ObjectId → List Op → Type 0
+AreOn h o ops = (a : Op) → Contains ops a ↔ (Contains h a × (object_of a ≡ o))
 
 -- `c` says whether the operations at two positions conflict
 module _ (c : ℕ → ℕ → Bool) where

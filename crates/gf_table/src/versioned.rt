@@ -1,96 +1,92 @@
-//! A history with the versions of its objects: what a caller of versions needs.
+//! A history with its versions, which grows by one operation at a time.
 
-ghost use Rattle.std.specs.Prelude.{◌≡◌, ◌↔◌, Err, IfOk, length};
+ghost use Rattle.std.specs.Prelude.{◌≡◌, ◌++◌, ◌∷◌, [], IfOk, OnErr, OnOk};
+ghost use Rattle.gf_ops.specs.Accepted.{IsAccepted};
+ghost use Rattle.gf_ops.specs.Limits.{IsInRange};
 ghost use Rattle.gf_ops.specs.ValidHistory.{IsValid};
-ghost use Rattle.gf_groups.specs.declared.faults.GroupFault.{GroupFault};
-ghost use Rattle.gf_groups.specs.Versions.{AreVersions, IsMade};
-ghost use Rattle.gf_table.specs.Counting.{IsCount};
-ghost use Rattle.gf_table.specs.Standing.{AreComponentsOn, ArePositionsOn, StandsFor};
+ghost use Rattle.gf_table.specs.Standing.{StandsFor};
 
-use crate::GroupTable;
-use crate::positions::positions_in;
+use crate::{GroupTable, Versions};
 use gf_base::OutOfMemory;
-use gf_components::Components;
-use gf_groups::{GroupFault, Groups};
-use gf_ops::{History, ObjectId, Op};
+use gf_ops::{History, Op};
 use std::alloc::Global;
 use std::marker::Model;
 
-/// A history with the table of its versions, seen as the list of its operations.
+/// A history and the table of its versions, seen as the list of its operations.
 #[derive(Debug, Drop)]
-pub struct VersionedHistory<'h> {
-    history: &'h History,
-    table: &'h GroupTable,
+pub struct VersionedHistory {
+    history: History,
+    table: GroupTable,
 }
 
-impl<'h> Model for VersionedHistory<'h> {
+impl Model for VersionedHistory {
     ghost use Rattle.std.specs.Prelude.{List};
     ghost use Rattle.gf_ops.specs.declared.op.Op.{Op};
     ghost use Rattle.gf_table.specs.Standing.{StandsFor};
 
     ghost Value = { List Op };
 
-    ghost view = { λ v. v.history.now.ops };
+    ghost view = { λ v. v.history.ops };
 
-    ghost invariant = { λ v. StandsFor v.history.now.ops v.table.now };
+    ghost invariant = { λ v. StandsFor v.history.ops v.table };
 }
 
-impl<'h> VersionedHistory<'h> {
-    /// The history with a table that stands for it.
-    pub fn new(history: &'h History, table: &'h GroupTable) -> VersionedHistory<'h>
-        requires { StandsFor history.now.ops table.now }
-        ensures { result ≡ history.now.ops }
+impl VersionedHistory {
+    /// The empty history.
+    pub fn new(alloc: Global) -> VersionedHistory
+        ensures { result ≡ [] }
     {
-        VersionedHistory { history, table }
+        VersionedHistory {
+            history: History::new(alloc),
+            table: GroupTable::new(alloc),
+        }
+    }
+
+    /// A copy of the history with its versions.
+    pub fn copy(&self, alloc: Global) -> Result<VersionedHistory, OutOfMemory>
+        ensures { IfOk result (λ copy. copy ≡ self.now) }
+    {
+        Ok(VersionedHistory {
+            history: self.history.copy(alloc)?,
+            table: self.table.copy(alloc)?,
+        })
     }
 
     /// The history.
-    pub fn history(&self) -> &'h History
+    pub fn history(&self) -> &History
         ensures ops { result.now.ops ≡ self.now }
         ensures valid { IsValid self.now }
     {
         let _ = self.history.ops();
-        self.history
+        &self.history
     }
 
-    /// The operations, in the order of the history.
-    pub fn ops(&self) -> &'h [Op]
-        ensures ops { result.now ≡ self.now }
+    /// The table, which stands for the history.
+    pub fn table(&self) -> &GroupTable
+        ensures { StandsFor self.now result.now }
+    {
+        &self.table
+    }
+
+    /// The versions of all objects.
+    pub fn versions(&self) -> Versions<'_>
+        ensures ops { result ≡ self.now }
         ensures valid { IsValid self.now }
     {
-        self.history.ops()
+        let _ = self.history.ops();
+        Versions::new(&self.history, &self.table)
     }
 
-    /// All versions of an object, hidden ones too.
-    pub fn groups(&self, alloc: Global, object: ObjectId) -> Result<Groups, GroupFault>
-        ensures groups { IfOk result (λ groups. AreVersions self.now object groups) }
-        ensures no_object { result ≡ Err GroupFault.NoObject ↔ (¬ IsMade self.now object) }
+    /// Adds an operation that the history accepts. All memory is there before anything changes.
+    pub fn add(&mut self, op: Op) -> Result<(), OutOfMemory>
+        requires in_range { IsInRange op }
+        requires accepted { IsAccepted self.old op }
+        ensures ok { OnOk result (self.new ≡ self.old ++ op ∷ []) }
+        ensures err { OnErr result (self.new ≡ self.old) }
     {
-        self.table.groups(alloc, self.history, object)
-    }
-
-    /// How many versions an object has, hidden ones too; 1,001 where there are more than 1,000. No
-    /// version is made.
-    pub fn count(&self, object: ObjectId) -> usize
-        requires { IsMade self.now object }
-        ensures { IsCount self.now object result }
-    {
-        self.table.count(self.history, object)
-    }
-
-    /// The positions in the history of the operations on an object, in no order.
-    pub fn positions(&self, alloc: Global, object: ObjectId) -> Result<Vec<usize>, OutOfMemory>
-        ensures { IfOk result (λ found. ArePositionsOn self.now object found.items) }
-    {
-        let components = self.components(alloc, object)?;
-        positions_in(alloc, &components)
-    }
-
-    /// The components of the operations on an object, by their positions in the history; none where
-    /// there is no operation.
-    pub fn components(&self, alloc: Global, object: ObjectId) -> Result<Components, OutOfMemory>
-        ensures { IfOk result (λ found. AreComponentsOn self.now object found) }
-    {
-        self.table.components(alloc, self.history, object)
+        self.history.room()?;
+        self.table.add(&self.history, &op)?;
+        self.history.push(op);
+        Ok(())
     }
 }
