@@ -8,15 +8,16 @@ ghost use Rattle.gf_edit.specs.EntrySteps.{TakesEntry};
 
 use crate::entries::read_entry;
 use crate::{Entry, Numbered};
+use gf_ops::History;
 use gf_replay::{ReadingError, line_refusal, take_op};
-use gf_site::{NoTable, Replica};
+use gf_site::Replica;
 use gf_streams::TextLines;
 use std::alloc::Global;
 
 /// What was read: a replica with the operations, and the commands in order.
 #[derive(Drop)]
 pub(crate) struct ReadLines {
-    pub(crate) replica: Replica<NoTable>,
+    pub(crate) replica: Replica<History>,
     pub(crate) commands: Vec<Numbered>,
 }
 

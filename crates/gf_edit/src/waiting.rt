@@ -9,12 +9,12 @@ use crate::EditError;
 use gf_causal::waits_for;
 use gf_ops::{Clock, History, Op};
 use gf_shape::OutOfMemory;
-use gf_site::{NoTable, Site};
+use gf_site::Site;
 use gf_studio::StudioError;
 use std::alloc::Global;
 
 /// Refuses the edit where one of the operations that the site holds blocks it.
-pub fn check_waiting(alloc: Global, site: &Site<NoTable>) -> Result<(), EditError>
+pub fn check_waiting(alloc: Global, site: &Site<History>) -> Result<(), EditError>
     ensures ok { OnOk result (IsUnblocked site.now) }
     ensures err { IfErr result (RefusesWaiting site.now) }
 {

@@ -11,7 +11,7 @@ ghost use Rattle.gf_inspect.specs.Falling.{falling_cmp, IsSettledFalling};
 use gf_groups::{Group, GroupFault, groups_of};
 use gf_ops::{History, ObjectId};
 use gf_shape::OutOfMemory;
-use gf_table::VersionedHistory;
+use gf_table::Versions;
 use gf_versions::{Version, settle_all};
 use std::alloc::Global;
 
@@ -37,7 +37,7 @@ pub fn versions(
 /// The versions that [`versions`] gives, of a history with its versions.
 pub fn versions_with(
     alloc: Global,
-    versions: &VersionedHistory<'_>,
+    versions: &Versions<'_>,
     object: ObjectId,
 ) -> Result<Vec<Version>, GroupFault>
     ensures versions { IfOk result (λ found. AreVersionsOf versions.now object found.items) }

@@ -8,7 +8,7 @@ ghost use Rattle.gf_inspect.specs.TopVersion.{NamesTop, name_of};
 
 use gf_ops::{History, Ids, ObjectId};
 use gf_shape::{AnyShape, OutOfMemory, Point, Shape};
-use gf_table::VersionedHistory;
+use gf_table::Versions;
 use gf_versions::{Ranked, ranked};
 use gf_visible::ranked_all;
 use std::alloc::Global;
@@ -37,7 +37,7 @@ pub fn top_at(
 /// over its operations, however many versions it has.
 pub fn top_at_with(
     alloc: Global,
-    versions: &VersionedHistory<'_>,
+    versions: &Versions<'_>,
     point: Point,
 ) -> Result<Option<VersionName>, OutOfMemory>
     ensures { IfOk result (λ name. NamesTop versions.now point name) }

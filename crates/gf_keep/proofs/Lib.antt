@@ -3,6 +3,6 @@ mod MadeLemmas
 mod KeptLemmas
 mod LawLemmas
 mod AimingLemmas
-mod TabledLemmas
+mod VersionedLemmas
 mod KeptGroupLemmas
 mod ShowingLemmas

@@ -10,24 +10,23 @@ ghost use Rattle.gf_keep.specs.KeepFaults.{RefusesKeep};
 ghost use Rattle.gf_keep.specs.KeepSteps.{AreIdsOn, AreOfObject, AreShowings};
 
 use crate::aiming::{aim_at, ids_on};
-use crate::tabled::with_table;
 use crate::visible::kept_groups;
 use crate::{Keep, KeepFault};
 use gf_base::OutOfMemory;
 use gf_groups::{Group, is_made};
 use gf_ops::{Change, History, Ids, ObjectId, OpId, Value};
-use gf_site::{Site, Table};
+use gf_site::{GrowingHistory, Site};
 use std::alloc::Global;
 
 /// The changes by which a site keeps versions of an object. The first one hides the object without
 /// an aim. Then one shows each kept version, in the order of their ids. It aims at what tells the
 /// version from all operations on the object, and at what these aim at.
 ///
-/// The history is read into a table of versions first. Each member of a kept version is compared
+/// The versions of the history are made first. Each member of a kept version is compared
 /// with each operation on the object.
-pub fn keeping<T: Table>(
+pub fn keeping<H: GrowingHistory>(
     alloc: Global,
-    site: &Site<T>,
+    site: &Site<H>,
     keep: &Keep,
 ) -> Result<Vec<Change>, KeepFault>
     ensures changes { IfOk result (λ changes. AreKeeping site.now.ops keep.now changes.items) }
@@ -44,7 +43,11 @@ pub fn keeping<T: Table>(
 }
 
 /// The versions that are kept, at least one.
-fn kept_in<T: Table>(alloc: Global, site: &Site<T>, keep: &Keep) -> Result<Vec<Group>, KeepFault>
+fn kept_in<H: GrowingHistory>(
+    alloc: Global,
+    site: &Site<H>,
+    keep: &Keep,
+) -> Result<Vec<Group>, KeepFault>
     requires { IsMade site.now.ops keep.now.object }
     ensures kept { IfOk result (λ groups. AreKept site.now.ops keep.now groups.items) }
     ensures some { IfOk result (λ groups. groups.items ≢ []) }

@@ -11,7 +11,7 @@ mod faults;
 mod keep;
 mod keeping_changes;
 mod laws;
-mod tabled;
+mod versioned;
 mod visible;
 
 pub use faults::KeepFault;

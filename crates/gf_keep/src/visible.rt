@@ -11,20 +11,21 @@ ghost use Rattle.gf_keep.specs.Keeping.{AreKept};
 ghost use Rattle.gf_keep.specs.KeepSteps.{has_all};
 
 use crate::Keep;
-use crate::tabled::with_table;
+use crate::versioned::versioned;
 use gf_base::OutOfMemory;
 use gf_groups::Group;
 use gf_ops::OpId;
-use gf_site::{Site, Table};
+use gf_site::{GrowingHistory, Site};
+use gf_table::Versions;
 use gf_versions::MOST_VERSIONS;
 use gf_visible::visible_groups;
 use std::alloc::Global;
 
 /// The visible versions that are kept, rising by their ids as a dictionary orders them. None where
 /// more than 1,000 versions of the object are visible.
-pub(crate) fn kept_groups<T: Table>(
+pub(crate) fn kept_groups<H: GrowingHistory>(
     alloc: Global,
-    site: &Site<T>,
+    site: &Site<H>,
     keep: &Keep,
 ) -> Result<Option<Vec<Group>>, OutOfMemory>
     requires { IsMade site.now.ops keep.now.object }
@@ -33,19 +34,23 @@ pub(crate) fn kept_groups<T: Table>(
     ensures more { IfOk result (λ found.
         IfNone found (HasMoreOn site.now.ops keep.now.object MOST_VERSIONS)) }
 {
-    let site = with_table(alloc, site)?;
-    kept_with(alloc, &site, keep)
+    let versioned = versioned(alloc, site.history())?;
+    kept_of(alloc, &versioned.versions(), keep)
 }
 
-/// The same, at a site with a table.
-fn kept_with(alloc: Global, site: &Site, keep: &Keep) -> Result<Option<Vec<Group>>, OutOfMemory>
-    requires { IsMade site.now.ops keep.now.object }
+/// The same, of a history with its versions.
+fn kept_of(
+    alloc: Global,
+    versions: &Versions<'_>,
+    keep: &Keep,
+) -> Result<Option<Vec<Group>>, OutOfMemory>
+    requires { IsMade versions.now keep.now.object }
     ensures kept { IfOk result (λ found.
-        IfSome found (λ groups. AreKept site.now.ops keep.now groups.items)) }
+        IfSome found (λ groups. AreKept versions.now keep.now groups.items)) }
     ensures more { IfOk result (λ found.
-        IfNone found (HasMoreOn site.now.ops keep.now.object MOST_VERSIONS)) }
+        IfNone found (HasMoreOn versions.now keep.now.object MOST_VERSIONS)) }
 {
-    let Some(groups) = visible_groups(alloc, &site.versions(), keep.object, MOST_VERSIONS)? else {
+    let Some(groups) = visible_groups(alloc, versions, keep.object, MOST_VERSIONS)? else {
         return Ok(None);
     };
     let mut kept = those_with(alloc, groups, keep.with.as_slice())?;

@@ -11,7 +11,7 @@ ghost use Rattle.gf_replay.specs.LineSteps.{HasRead, RefusesLine, TakesLine};
 
 use crate::blocks::{Block, Reading, read_block};
 use crate::{ReadingError, line_refusal, take_op};
-use gf_site::{Replica, Table};
+use gf_site::{GrowingHistory, Replica};
 use gf_streams::TextLines;
 use std::alloc::{AllocError, Global};
 use std::thread;
@@ -21,12 +21,12 @@ use std::thread::Threads;
 /// operation until all that this knows is there. What it holds at the end is no part of the
 /// history, and waits. The lines are read by 1 to 16 workers, and taken in order. The text's memory
 /// is given back as it is read.
-pub fn read_replica<R: Threads + Sync, T: Table>(
+pub fn read_replica<R: Threads + Sync, H: GrowingHistory>(
     rt: &R,
     alloc: Global,
     text: Vec<u8>,
     workers: u8,
-) -> Result<Replica<T>, ReadingError>
+) -> Result<Replica<H>, ReadingError>
     requires { (1 ≤ workers) × (workers ≤ 16) }
     ensures ok { IfOk result (λ replica. Denotes text.items replica.ops) }
     ensures held { IfOk result (λ replica.
@@ -49,13 +49,13 @@ pub fn read_replica<R: Threads + Sync, T: Table>(
 
 /// Takes what the lines of a block read as, and reads the next block. With several workers, one of
 /// them takes while the others read.
-fn take_and_read<R: Threads + Sync, T: Table>(
+fn take_and_read<R: Threads + Sync, H: GrowingHistory>(
     rt: &R,
     alloc: Global,
-    replica: Replica<T>,
+    replica: Replica<H>,
     block: Block,
     workers: u8,
-) -> Result<(Replica<T>, Block), ReadingError>
+) -> Result<(Replica<H>, Block), ReadingError>
     requires workers { 1 ≤ workers }
     requires block { AreOfLines block.readings.items }
     ensures ok { (text : List ℕ) → IsBefore text block.readings.items block.behind replica
@@ -80,7 +80,7 @@ fn take_and_read<R: Threads + Sync, T: Table>(
             requires { IsSync R.row × (1 ≤ readers) }
             ensures { IfOk result (λ block. IsBlock behind block.readings.items block.behind) }
         { read_block(rt, alloc, behind, readers) },
-        move || -> Result<Replica<T>, ReadingError>
+        move || -> Result<Replica<H>, ReadingError>
             requires { AreOfLines readings.items }
             ensures { TakesBlock readings.items replica result }
         { take_block(replica, readings) },
@@ -100,10 +100,10 @@ fn is_read_meanwhile(lines: &TextLines, workers: u8) -> bool
 }
 
 /// Takes what the lines of a block read as, in order.
-fn take_block<T: Table>(
-    replica: Replica<T>,
+fn take_block<H: GrowingHistory>(
+    replica: Replica<H>,
     readings: Vec<Reading>,
-) -> Result<Replica<T>, ReadingError>
+) -> Result<Replica<H>, ReadingError>
     requires { AreOfLines readings.items }
     ensures { TakesBlock readings.items replica result }
 {
@@ -115,7 +115,10 @@ fn take_block<T: Table>(
 }
 
 /// Takes what a line reads as.
-fn take_reading<T: Table>(replica: &mut Replica<T>, reading: Reading) -> Result<(), ReadingError>
+fn take_reading<H: GrowingHistory>(
+    replica: &mut Replica<H>,
+    reading: Reading,
+) -> Result<(), ReadingError>
     requires { IfOk reading.op (λ op. IsInRange op) }
     ensures ok { (line : ℕ × List ℕ) → IsReading line reading →
         OnOk result (TakesLine line.1 replica.old replica.new) }

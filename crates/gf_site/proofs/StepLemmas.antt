@@ -1,6 +1,6 @@
 -- What a step leaves.
-use Rattle.std.proofs.Common.{◌≡◌, Option, Some, List, [], ◌∷◌, ◌++◌, sym, ap, subst, ◌∙◌}
-use Rattle.std.specs.Prelude.{◌↔◌, Result, Err}
+use Rattle.std.proofs.Common.{◌≡◌, List, [], ◌∷◌, ◌++◌, refl, sym, ap, subst, ◌∙◌}
+use Rattle.std.specs.Prelude.{◌↔◌, Result, Err, Ok, OnErr, OnOk}
 use Rattle.gf_ops.specs.declared.op.Op.{Op}
 use Rattle.gf_ops.specs.declared.faults.OpFault.{OpFault}
 use Rattle.gf_ops.specs.declared.faults.OpFault.TheVariants.{BadClock, NoObject, WrongKind, BadAim}
@@ -11,9 +11,16 @@ use Rattle.gf_ops.specs.Accepted.{IsAccepted, IsRefused, AreAccepted, next}
 use Rattle.gf_site.specs.SiteState.{SiteState, replica_of}
 
 -- an accepted operation goes on
-pub run_more : (h old new : List Op) (a : Op) → AreAccepted h → old ≡ h → IsAccepted h a
-    → new ≡ old ++ a ∷ [] → AreAccepted new
-run_more h old new a run e c n = subst AreAccepted (sym (n ∙ ap (λ l. l ++ a ∷ []) e)) (next run c)
+pub run_more : (h new : List Op) (a b : Op) → AreAccepted h → IsAccepted h a → b ≡ a
+    → new ≡ h ++ b ∷ [] → AreAccepted new
+run_more h new a b run t e n = subst AreAccepted (sym (n ∙ ap (λ b. h ++ b ∷ []) e)) (next run t)
+
+-- and where it wanted memory, nothing did
+pub run_after : {A E H : Type 0} (ops : H → List Op) (r : Result A E) (old new : H) (a : Op)
+    → AreAccepted (ops old) → IsAccepted (ops old) a → OnOk r (ops new ≡ ops old ++ a ∷ [])
+    → OnErr r (new ≡ old) → AreAccepted (ops new)
+run_after ops (Ok x) old new a run t ok err = run_more (ops old) (ops new) a a run t refl ok
+run_after ops (Err e) old new a run t ok err = subst (λ x. AreAccepted (ops x)) (sym err) run
 
 -- the fault that a check told
 pub refused_by : {A : Type 0} (h : List Op) (a : Op) (r : Result A OpFault) (f : OpFault)
@@ -25,19 +32,6 @@ refused_by h a r BadClock e p q w x = p.0 e
 refused_by h a r NoObject e p q w x = q.0 e
 refused_by h a r WrongKind e p q w x = w.0 e
 refused_by h a r BadAim e p q w x = x.0 e
-
--- what was taken out is the one that was looked for
-pub same_taken : (r : Option Op) (a b : Op) → r ≡ Some a → r ≡ Some b → b ≡ a
-same_taken r a b e f = cc
-
-pub accepted_same : (h old : List Op) (a b : Op) → old ≡ h → b ≡ a → IsAccepted h a
-    → IsAccepted old b
-accepted_same h old a b e s c = subst (λ l. IsAccepted l b) (sym e) (subst (IsAccepted h) (sym s) c)
-
--- what holds of the history with the operation holds of the new one
-pub holds_more : (P : List Op → Type 0) (h old new : List Op) (a : Op) → old ≡ h
-    → new ≡ old ++ a ∷ [] → P (h ++ a ∷ []) → P new
-holds_more P h old new a e n = subst P (sym (n ∙ ap (λ l. l ++ a ∷ []) e))
 
 -- an accepted change makes an object, or changes one that its operation knows
 pub founded : (h : List Op) (a : Op) (c : Change) → IsSuited h a c → IsFounded h a c

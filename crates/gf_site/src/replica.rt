@@ -13,11 +13,11 @@ ghost use Rattle.gf_site.specs.ReplicaState.{new_replica};
 ghost use Rattle.gf_site.specs.ReplicaSteps.{HasNext, StepsOnce};
 ghost use Rattle.gf_site.specs.Offers.{HasOtherThan, HasAlready, IsNewTo, ComesToHold};
 
-use crate::Table;
+use crate::GrowingHistory;
 use gf_base::OutOfMemory;
 use gf_causal::{Buffer, OfferFault, Offered};
 use gf_ops::{History, Op, OpFault, OpId};
-use gf_table::{GroupTable, VersionedHistory};
+use gf_table::{GroupTable, VersionedHistory, Versions};
 use std::alloc::Global;
 use std::marker::Model;
 
@@ -32,62 +32,61 @@ pub enum Step {
     Idle,
 }
 
-/// A history, a table that stands for it, and the operations held until they are ready.
+/// A history, by default with its versions, and the operations held until they are ready.
 #[derive(Debug, Drop)]
-pub struct Replica<T: Table = GroupTable> {
-    history: History,
-    table: T,
+pub struct Replica<H: GrowingHistory = VersionedHistory> {
+    alloc: Global,
+    history: H,
     buffer: Buffer,
 }
 
-impl<T: Table> Model for Replica<T> {
+impl<H: GrowingHistory> Model for Replica<H> {
     ghost use Rattle.gf_ops.specs.Accepted.{AreAccepted};
     ghost use Rattle.gf_site.specs.ReplicaState.{ReplicaState};
 
     ghost Value = { ReplicaState };
 
-    ghost view = { λ r. record { ops = r.history.ops; held = r.buffer } };
+    ghost view = { λ r. record { ops = H.ops r.history; held = r.buffer } };
 
-    ghost invariant = { λ r. AreAccepted r.history.ops × T.stands r.table r.history.ops };
+    ghost invariant = { λ r. AreAccepted (H.ops r.history) };
 }
 
-impl Replica<GroupTable> {
+impl Replica<VersionedHistory> {
     /// The versions of all objects of the history.
     pub fn table(&self) -> &GroupTable
         ensures { StandsFor self.now.ops result.now }
     {
-        &self.table
+        self.history.table()
     }
 
     /// The history with the versions of its objects.
-    pub fn versions(&self) -> VersionedHistory<'_>
+    pub fn versions(&self) -> Versions<'_>
         ensures ops { result ≡ self.now.ops }
         ensures valid { IsValid self.now.ops }
     {
-        let _ = self.history.ops();
-        VersionedHistory::new(&self.history, &self.table)
+        self.history.versions()
     }
 }
 
-impl<T: Table> Replica<T> {
+impl<H: GrowingHistory> Replica<H> {
     /// A replica that has and holds nothing.
-    pub fn new(alloc: Global) -> Replica<T>
+    pub fn new(alloc: Global) -> Replica<H>
         ensures { result ≡ new_replica }
     {
         Replica {
-            history: History::new(alloc),
-            table: T::new(alloc),
+            alloc,
+            history: H::new(alloc),
             buffer: Buffer::new(alloc),
         }
     }
 
     /// A copy of the replica.
-    pub fn copy(&self, alloc: Global) -> Result<Replica<T>, OutOfMemory>
+    pub fn copy(&self, alloc: Global) -> Result<Replica<H>, OutOfMemory>
         ensures { IfOk result (λ copy. copy ≡ self.now) }
     {
         Ok(Replica {
+            alloc,
             history: self.history.copy(alloc)?,
-            table: self.table.copy(alloc)?,
             buffer: self.buffer.copy(alloc)?,
         })
     }
@@ -98,8 +97,9 @@ impl<T: Table> Replica<T> {
         ensures accepted { AreAccepted self.now.ops }
         ensures valid { IsValid self.now.ops }
     {
-        let _ = self.history.ops();
-        &self.history
+        let history = self.history.history();
+        let _ = history.ops();
+        history
     }
 
     /// How many operations are held.
@@ -125,9 +125,7 @@ impl<T: Table> Replica<T> {
         ensures ok { OnOk result (self.new ≡ record self.old { ops = self.old.ops ++ op ∷ [] }) }
         ensures err { OnErr result (self.new ≡ self.old) }
     {
-        grow(&mut self.history, &mut self.table, &op)?;
-        self.history.push(op);
-        Ok(())
+        self.history.add(op)
     }
 
     /// Holds an operation that is neither held nor in the history.
@@ -140,43 +138,27 @@ impl<T: Table> Replica<T> {
         ensures same { result ≢ Ok Offered.Held → self.new ≡ self.old }
         ensures kept { self.new ≡ record self.old { held = self.new.held } }
     {
-        self.buffer.offer(op, &self.history)
+        self.buffer.offer(op, self.history.history())
     }
 
     /// Moves the ready held operation with the least id to the history, or forgets it where it
-    /// doesn't fit. All memory is there before anything changes.
+    /// doesn't fit. A copy goes to the history, so that want of memory leaves the held one.
     pub fn step(&mut self) -> Result<Step, OutOfMemory>
         ensures ok { IfOk result (λ step. StepsOnce self.old step self.new) }
         ensures out_of_memory { OnErr result (HasNext self.old) }
         ensures same { OnErr result (self.new ≡ self.old) }
     {
-        let Some(op) = self.buffer.first_ready(&self.history) else {
+        let history = self.history.history();
+        let Some(op) = self.buffer.first_ready(history) else {
             return Ok(Step::Idle);
         };
         let id = op.id;
-        if let Err(fault) = self.history.check(op) {
+        if let Err(fault) = history.check(op) {
             let _ = self.buffer.take(id);
             return Ok(Step::Dropped(id, fault));
         }
-        grow(&mut self.history, &mut self.table, op)?;
-        let Some(op) = self.buffer.take(id) else {
-            unreachable!();
-        };
-        self.history.push(op);
+        self.history.add(op.copy(self.alloc)?)?;
+        let _ = self.buffer.take(id);
         Ok(Step::Applied(id))
     }
-}
-
-/// Makes room in the history for an operation that it accepts, and notes it in the table.
-fn grow<T: Table>(history: &mut History, table: &mut T, op: &Op) -> Result<(), OutOfMemory>
-    requires in_range { IsInRange op.now }
-    requires accepted { IsAccepted history.old.ops op.now }
-    requires stands { T.stands table.old history.old.ops }
-    ensures history { history.new.ops ≡ history.old.ops }
-    ensures room { OnOk result (0 < history.new.room) }
-    ensures table { OnOk result (T.stands table.new (history.old.ops ++ op.now ∷ [])) }
-    ensures err { OnErr result (table.new ≡ table.old) }
-{
-    history.room()?;
-    table.add(history, op)
 }

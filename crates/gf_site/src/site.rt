@@ -16,23 +16,23 @@ ghost use Rattle.gf_site.specs.Events.{Refuses, Authors, Steps};
 ghost use Rattle.gf_site.specs.Offers.{HasOtherThan, HasAlready, IsNewTo, ComesToHold};
 ghost use Rattle.gf_site.specs.declared.faults.AuthorFault.TheVariants as fault;
 
-use crate::{AuthorFault, Replica, Step, Table};
+use crate::{AuthorFault, GrowingHistory, Replica, Step};
 use gf_base::OutOfMemory;
 use gf_causal::{OfferFault, Offered};
 use gf_ops::{Change, Clock, History, Op, OpFault, OpId};
-use gf_table::{GroupTable, VersionedHistory};
+use gf_table::{GroupTable, VersionedHistory, Versions};
 use std::alloc::Global;
 use std::marker::Model;
 
 /// A replica under the number of a site, which makes operations of changes.
 #[derive(Debug, Drop)]
-pub struct Site<T: Table = GroupTable> {
+pub struct Site<H: GrowingHistory = VersionedHistory> {
     number: u8,
-    replica: Replica<T>,
+    replica: Replica<H>,
     alloc: Global,
 }
 
-impl<T: Table> Model for Site<T> {
+impl<H: GrowingHistory> Model for Site<H> {
     ghost use Rattle.gf_ops.specs.OperationOrder.{IsSite};
     ghost use Rattle.gf_site.specs.SiteState.{SiteState, at_site};
 
@@ -43,7 +43,7 @@ impl<T: Table> Model for Site<T> {
     ghost invariant = { λ s. IsSite s.number };
 }
 
-impl Site<GroupTable> {
+impl Site<VersionedHistory> {
     /// A site that has and holds nothing.
     pub fn new(alloc: Global, number: u8) -> Site
         requires { IsSite number }
@@ -60,7 +60,7 @@ impl Site<GroupTable> {
     }
 
     /// The history with the versions of its objects.
-    pub fn versions(&self) -> VersionedHistory<'_>
+    pub fn versions(&self) -> Versions<'_>
         ensures ops { result ≡ self.now.ops }
         ensures valid { IsValid self.now.ops }
     {
@@ -68,9 +68,9 @@ impl Site<GroupTable> {
     }
 }
 
-impl<T: Table> Site<T> {
+impl<H: GrowingHistory> Site<H> {
     /// The site of this number that has and holds what the replica does.
-    pub fn with_replica(alloc: Global, number: u8, replica: Replica<T>) -> Site<T>
+    pub fn with_replica(alloc: Global, number: u8, replica: Replica<H>) -> Site<H>
         requires { IsSite number }
         ensures { result ≡ at_site number replica }
     {
@@ -82,7 +82,7 @@ impl<T: Table> Site<T> {
     }
 
     /// A copy of the site.
-    pub fn copy(&self, alloc: Global) -> Result<Site<T>, OutOfMemory>
+    pub fn copy(&self, alloc: Global) -> Result<Site<H>, OutOfMemory>
         ensures { IfOk result (λ copy. copy ≡ self.now) }
     {
         Ok(Site {
@@ -101,7 +101,7 @@ impl<T: Table> Site<T> {
     }
 
     /// What the site has and holds.
-    pub fn replica(&self) -> &Replica<T>
+    pub fn replica(&self) -> &Replica<H>
         ensures { result.now ≡ replica_of self.now }
     {
         &self.replica

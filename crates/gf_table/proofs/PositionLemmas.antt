@@ -115,12 +115,12 @@ module _ (h : List Op) where
             let told : is_on o (slice_get h w.0) ≡ true = (numbers_on h o t on w.0).0 w.1 in (
               contained_at h w.0 a w.2,
               ap (λ i. record { 0 = i })
-              (same.0 (subst (λ r. is_on o r ≡ true) w.2 told)),
+                  (same.0 (subst (λ r. is_on o r ≡ true) w.2 told)),
             ),
         λ w.
             let p = position_of_op h a w.0 in
             let told : is_on o (slice_get h p.0) ≡ true =
-                subst (λ r. is_on o r ≡ true) (sym p.1)
-                (same.1 (ap (λ (x : ObjectId). x.0) w.1)) in
+            subst (λ r. is_on o r ≡ true) (sym p.1)
+            (same.1 (ap (λ (x : ObjectId). x.0) w.1)) in
             to_all (numbers_in t) p.0 a ((numbers_on h o t on p.0).1 told) p.1,
       )

@@ -28,10 +28,10 @@ use gf_fig_named::read_names;
 use gf_fig_read::{object_line, read_fig};
 use gf_figures::Drawing;
 use gf_import::{CreationError, creations};
-use gf_ops::{Change, Clock, Op, OpId};
+use gf_ops::{Change, Clock, History, Op, OpId};
 use gf_replay::read_replica;
 use gf_shape::{OutOfMemory, Outline};
-use gf_site::{NoTable, Site};
+use gf_site::Site;
 use gf_studio::StudioError;
 use gf_take::{TakeError, base_site, looks_like, take};
 use gf_versions::MOST_VERSIONS;
@@ -92,7 +92,7 @@ fn read_lines<T: Threads + Sync>(
     lines: Vec<u8>,
     site: u8,
     workers: u8,
-) -> Result<Site<NoTable>, TakeRunError>
+) -> Result<Site<History>, TakeRunError>
     requires site { IsSite site }
     requires workers { (1 ≤ workers) × (workers ≤ 16) }
     ensures ok { IfOk result (λ x. DenotesLines site lines.items x.ops) }
@@ -192,7 +192,7 @@ fn fig_refusal(alloc: Global, fig: &[u8]) -> TakeRunError
 /// What a site takes of a drawing.
 fn take_drawing(
     alloc: Global,
-    taker: &Site<NoTable>,
+    taker: &Site<History>,
     drawn: ReadDrawing,
 ) -> Result<TakenText, TakeRunError>
     ensures ok { IfOk result (TakesSo taker.now.number taker.now.ops drawn.drawing drawn.seen) }

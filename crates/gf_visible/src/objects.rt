@@ -11,7 +11,7 @@ use crate::listing::shown_sets;
 use gf_groups::{Group, GroupFault, add_groups};
 use gf_ops::{Change, ObjectId, Op};
 use gf_shape::OutOfMemory;
-use gf_table::VersionedHistory;
+use gf_table::Versions;
 use gf_versions::MOST_VERSIONS;
 use std::alloc::Global;
 
@@ -24,7 +24,7 @@ use std::alloc::Global;
 /// in one pass where there is no aim among them, and else by a search. Either stops beyond `most`.
 pub fn visible_groups(
     alloc: Global,
-    versions: &VersionedHistory<'_>,
+    versions: &Versions<'_>,
     object: ObjectId,
     most: usize,
 ) -> Result<Option<Vec<Group>>, OutOfMemory>
@@ -49,7 +49,7 @@ pub fn visible_groups(
 /// made one.
 pub(crate) fn visible_made(
     alloc: Global,
-    versions: &VersionedHistory<'_>,
+    versions: &Versions<'_>,
     op: &Op,
     most: usize,
 ) -> Result<Option<Vec<Group>>, OutOfMemory>
@@ -66,11 +66,7 @@ pub(crate) fn visible_made(
 
 /// The groups of the versions of the object that an operation of the history made, if it made
 /// one.
-fn versions_made(
-    alloc: Global,
-    versions: &VersionedHistory<'_>,
-    op: &Op,
-) -> Result<Vec<Group>, OutOfMemory>
+fn versions_made(alloc: Global, versions: &Versions<'_>, op: &Op) -> Result<Vec<Group>, OutOfMemory>
     requires contained { Contains versions.now op.now }
     ensures { IfOk result (λ groups.
         HaveVisibleOf versions.now (op.now ∷ []) groups.items) }
@@ -89,7 +85,7 @@ fn versions_made(
 /// visible ones where these are at most [`MOST_VERSIONS`], and else all.
 pub(crate) fn visible_or_all(
     alloc: Global,
-    versions: &VersionedHistory<'_>,
+    versions: &Versions<'_>,
     op: &Op,
 ) -> Result<Vec<Group>, OutOfMemory>
     requires contained { Contains versions.now op.now }

@@ -11,7 +11,7 @@ use crate::objects::{visible_made, visible_or_all};
 use gf_groups::Group;
 use gf_ops::History;
 use gf_shape::{AnyShape, OutOfMemory};
-use gf_table::{GroupTable, VersionedHistory};
+use gf_table::{GroupTable, Versions};
 use gf_versions::{Ranked, ranked_of};
 use std::alloc::Global;
 
@@ -24,16 +24,13 @@ pub fn ranked_with(
     requires { StandsFor history.now.ops table.now }
     ensures { IfOk result (λ ranked. AreRanked history.now.ops ranked.items.items) }
 {
-    ranked_all(alloc, &VersionedHistory::new(history, table))
+    ranked_all(alloc, &Versions::new(history, table))
 }
 
 /// The visible versions of a history, topmost first, as `ranked` gives them.
 ///
 /// Of an object with at most 1,000 visible versions no others are listed.
-pub fn ranked_all(
-    alloc: Global,
-    versions: &VersionedHistory<'_>,
-) -> Result<Ranked<AnyShape>, OutOfMemory>
+pub fn ranked_all(alloc: Global, versions: &Versions<'_>) -> Result<Ranked<AnyShape>, OutOfMemory>
     ensures { IfOk result (λ ranked. AreRanked versions.now ranked.items.items) }
 {
     let history = versions.history();
@@ -42,7 +39,7 @@ pub fn ranked_all(
 }
 
 /// The groups of versions among which are all visible ones.
-fn groups_to_rank(alloc: Global, versions: &VersionedHistory<'_>) -> Result<Vec<Group>, OutOfMemory>
+fn groups_to_rank(alloc: Global, versions: &Versions<'_>) -> Result<Vec<Group>, OutOfMemory>
     ensures { IfOk result (λ groups.
         HaveVisibleOf versions.now versions.now groups.items) }
 {
@@ -61,7 +58,7 @@ fn groups_to_rank(alloc: Global, versions: &VersionedHistory<'_>) -> Result<Vec<
 /// as in [`visible_groups`](crate::visible_groups).
 pub fn ranked_within(
     alloc: Global,
-    versions: &VersionedHistory<'_>,
+    versions: &Versions<'_>,
     most: usize,
 ) -> Result<Option<Ranked<AnyShape>>, OutOfMemory>
     requires { most ≤ MOST_VERSIONS }
@@ -81,7 +78,7 @@ pub fn ranked_within(
 /// The groups of all visible versions, if they are at most `most`.
 fn all_visible(
     alloc: Global,
-    versions: &VersionedHistory<'_>,
+    versions: &Versions<'_>,
     most: usize,
 ) -> Result<Option<Vec<Group>>, OutOfMemory>
     requires { most ≤ MOST_VERSIONS }

@@ -16,8 +16,11 @@ loop-position-preserved c =
     rw (take_more us n 0 c.loop-position-test.true) (elim c.match-get.branch [
       | in-Some+in_ok-push w ↦
           let found = c.loop-position.found.items in
-          rw (w.found-is, w.in_ok-push.ensures.items,
-          map-append (λ a. a.now) found (w.in-Some.op ∷ []))
+          rw (
+            w.found-is,
+            w.in_ok-push.ensures.items,
+            map-append (λ a. a.now) found (w.in-Some.op ∷ []),
+          )
           (one_more h (take n us) k (map (λ a. a.now) found) w.in-Some.op.now
           c.loop-position.invariant (subst (λ ops. slice_get ops k ≡ Some w.in-Some.op.now)
           c.ops-ops.ensures.ops (slice_get_read c.ops-ops.result.now
@@ -33,10 +36,10 @@ pub returns : goal.returns
 returns c =
     let us = c.deref-position-items.result.now in
     let done = subst (λ us. map (λ a. a.now) c.loop-position.found.items
-        ≡ filter_map (slice_get c.args.history.now.ops) us)
-        (take_all c.loop-position.position-index us c.loop-position-test.false)
-        c.loop-position.invariant in
+    ≡ filter_map (slice_get c.args.history.now.ops) us)
+    (take_all c.loop-position.position-index us c.loop-position-test.false)
+    c.loop-position.invariant in
     let listed : us ≡ numbers_in c.args.components.now =
-        c.deref-position-items.ensures.value ∙ c.in_ok-positions.ensures in
+    c.deref-position-items.ensures.value ∙ c.in_ok-positions.ensures in
     subst (λ us. map (λ a. a.now) c.loop-position.found.items
     ≡ filter_map (slice_get c.args.history.now.ops) us) listed done

@@ -3,7 +3,4 @@ use Rattle.gf_ops.specs.Accepted.{AreAccepted, none}
 use Rattle.gf_site.proofs.replica.Replica.new.Goals as goal
 
 pub invariant_of-result : goal.invariant_of-result
-invariant_of-result g c = (
-  subst AreAccepted (sym c.new.ensures) none,
-  subst (g.T.Table.stands c.new-2.result) (sym c.new.ensures) c.new-2.ensures,
-)
+invariant_of-result g c = subst AreAccepted (sym c.new.ensures) none

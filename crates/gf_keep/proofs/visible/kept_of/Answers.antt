@@ -1,11 +1,11 @@
 use Rattle.gf_groups.specs.declared.group.Group.{Group}
-use Rattle.std.proofs.Common.{Global, Vec}
+use Rattle.std.proofs.Common.{Global, Vec, refl}
 use Rattle.gf_keep.proofs.KeptGroupLemmas.{kept_at}
-use Rattle.gf_keep.proofs.visible.kept_with.Goals as goal
+use Rattle.gf_keep.proofs.visible.kept_of.Goals as goal
 
 pub returns-clause-kept : goal.returns-clause-kept
 returns-clause-kept c =
-    kept_at c.args.site.now.ops c.args.keep.now c.versions.result c.versions.ensures.ops
+    kept_at c.args.versions.now c.args.keep.now c.args.versions.now refl
     (λ (v : Vec Group Global). v.items) c.in_ok-groups.field-0 c.in-Some.groups c.in-Some.is
     c.in_ok-groups.ensures.groups
     c.as_slice.result.now c.as_slice.ensures c.in_ok-kept.kept.items c.sort.new.groups.items
