@@ -1,23 +1,18 @@
--- Attributes that differ among visible versions, and the operations that give their values.
-use Rattle.std.proofs.Common.{◌≡◌, ◌≢◌, ℕ, ◌<◌, true, false, not, List, [], ◌∷◌, length, refl, sym}
+-- Attributes that differ among visible versions.
+use Rattle.std.proofs.Common.{◌≡◌, ◌≢◌, true, false, not, List, [], ◌∷◌, refl, sym}
 use Rattle.std.proofs.Common.{ap, subst, ◌∙◌, inl, inr}
-use Rattle.std.specs.Prelude.{◌↔◌, Contains, Option, Some, None, slice_get}
-use Rattle.std.specs.List.Sorted.{IsStrictlySortedBy}
+use Rattle.std.specs.Prelude.{Contains, Option, Some, None}
 use Rattle.std.proofs.lemmas.Bool.{cases_Bool}
-use Rattle.std.proofs.lemmas.Option.{slice_get_within}
 use Rattle.gf_ops.specs.declared.op.Op.{Op}
-use Rattle.gf_ops.specs.declared.op.OpId.{OpId}
 use Rattle.gf_ops.specs.declared.op.ObjectId.{ObjectId}
 use Rattle.gf_ops.specs.declared.change.Attr.{Attr}
 use Rattle.gf_ops.specs.declared.change.Value.{Value}
 use Rattle.gf_ops.specs.ConflictTests.{value_eq}
-use Rattle.gf_ops.specs.OperationOrder.{id_cmp}
 use Rattle.gf_ops.specs.ValidHistory.{IsValid}
 use Rattle.gf_base.proofs.ListLemmas.{Contains-cons_cases, Contains-cons_head, Contains-cons_tail}
 use Rattle.gf_base.proofs.ListLemmas.{Contains-map, Contains-map_from, not_Contains-nil}
 use Rattle.gf_ops.proofs.SameLemmas.{value_eq-same, value_eq-true}
 use Rattle.gf_groups.specs.declared.group.Group.{Group}
-use Rattle.gf_groups.proofs.OnPositionLemmas.{contained_at, position_of_op}
 use Rattle.gf_base.proofs.FilterLemmas.{list_any_false, list_any_true}
 use Rattle.gf_versions.specs.declared.key.Version.{Version}
 use Rattle.gf_versions.specs.ListedVersions.{AreSettled}
@@ -25,10 +20,8 @@ use Rattle.gf_versions.specs.Ranking.{group_of}
 use Rattle.gf_versions.specs.Visible.{IsVisible}
 use Rattle.gf_versions.proofs.VersionLemmas.{one_of_group}
 use Rattle.gf_visible.specs.ShownVersions.{AreVisibleOn, IsVisibleGroup}
-use Rattle.gf_visible.proofs.SetterLemmas.{one_op}
-use Rattle.gf_status.specs.Differing.{AreGivers, Differs, IsVisibleOn, version_value}
-use Rattle.gf_status.specs.Members.{IsIdAmong, IsLastInOne}
-use Rattle.gf_status.specs.SettersAt.{are_others, some_differ}
+use Rattle.gf_status.specs.Differing.{Differs, IsVisibleOn, version_value}
+use Rattle.gf_status.specs.Setters.{are_others, some_differ}
 
 -- ---- values
 
@@ -118,61 +111,3 @@ agrees_told h valid o groups all (v ∷ vs) settled t e = λ d.
       | inr i ↦ same_told (version_value v t) (version_value u t)
           (list_any_false (λ u. are_others (version_value v t) (version_value u t)) vs e u i)
     ]
-
--- ---- what gives the values
-
--- what is last in one group is an operation of the history
-pub lasts_within : (h : List Op) (t : Attr) (groups : List Group) (us : List ℕ)
-    → ((k : ℕ) → Contains us k ↔ IsLastInOne h t groups k) → (k : ℕ) → Contains us k → k < length h
-lasts_within h t groups us are k c = let l = (are k).0 c in slice_get_within h k l.last.op l.last.at
-
-pub givers_told : (h : List Op) (t : Attr) (groups : List Group) (us : List ℕ)
-    → ((k : ℕ) → Contains us k ↔ IsLastInOne h t groups k)
-    → (ids : List OpId) → ((i : OpId) → Contains ids i ↔ IsIdAmong h us i)
-    → IsStrictlySortedBy id_cmp ids → (o : ObjectId) → AreVisibleOn h o groups → AreGivers h o t ids
-givers_told h t groups us are ids told rising o all = record {
-  exactly = λ i. (
-    λ c.
-        let w = (told i).0 c in
-        let l = (are w.position).0 w.listed in
-        let v = (all.exactly l.group).0 l.listed in
-        let last = l.last in
-        let same : last.op ≡ w.op = one_op (slice_get h w.position) last.op w.op last.at w.at in
-        record {
-          op = last.op;
-          id = ap (λ (z : Op). z.id) same ∙ w.id;
-          gives = record {
-            group = l.group;
-            object = v.0;
-            visible = v.1;
-            member = record {
-              contained = contained_at h w.position last.op last.at;
-              grouped = last.among;
-            };
-            sets = last.sets;
-            last = last.last;
-          };
-        },
-    λ g.
-        let is = g.gives in
-        let w = position_of_op h g.op is.member.contained in
-        (told i).1 (record {
-          position = w.0;
-          listed = (are w.0).1 (record {
-            group = is.group;
-            listed = (all.exactly is.group).1 (is.object, is.visible);
-            last = record {
-              op = g.op;
-              at = w.1;
-              among = is.member.grouped;
-              sets = is.sets;
-              last = is.last;
-            };
-          });
-          op = g.op;
-          at = w.1;
-          id = g.id;
-        }),
-  );
-  rising = rising;
-}

@@ -1,8 +1,7 @@
-pub mod PositionLemmas
 pub mod LastLemmas
-pub mod MemberLemmas
+pub mod UnseenLemmas
+pub mod HiddenLemmas
 pub mod SetterLemmas
 pub mod DifferingLemmas
-pub mod HiddenLemmas
 pub mod CleanLemmas
 pub mod StatusLemmas

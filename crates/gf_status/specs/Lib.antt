@@ -5,5 +5,4 @@ pub mod UnseenChanges
 pub mod ObjectStatuses
 pub mod StatusLines
 pub mod StatusRun
-pub mod SettersAt
-pub mod Members
+pub mod Setters

@@ -1,6 +1,8 @@
 //! The attributes whose values differ among the visible versions of an object.
 
-ghost use Rattle.std.specs.Prelude.{◌≡◌, ◌↔◌, Contains, IfOk, option_map};
+ghost use Rattle.std.specs.Prelude.{◌≡◌, ◌↔◌, Contains, IfOk, map, option_map};
+ghost use Rattle.gf_ops.specs.declared.op.Op.{Op};
+ghost use Rattle.gf_ops.specs.Version.{IsMember};
 ghost use Rattle.gf_groups.specs.declared.group.Group.{Group};
 ghost use Rattle.gf_groups.specs.Versions.{IsVersionGroup};
 ghost use Rattle.gf_visible.specs.ShownVersions.{AreVisibleOn};
@@ -10,14 +12,13 @@ ghost use Rattle.gf_ops.specs.Attribute.{form_value, value_as};
 ghost use Rattle.gf_ops.specs.declared.change.Attr.TheVariants as attr;
 ghost use Rattle.gf_ops.specs.declared.change.Value.TheVariants as value;
 ghost use Rattle.std.specs.List.{list_any};
-ghost use Rattle.gf_status.specs.SettersAt.{are_others, some_differ};
-ghost use Rattle.gf_status.specs.Members.{IsLastAt, IsLastInOne};
+ghost use Rattle.gf_status.specs.Setters.{IsLastIn, IsLastInOne, are_others, some_differ};
 
-use crate::positions::{positions_of, rising};
+use crate::ids::ids_of;
 use crate::setters::{lasts, setters};
 use gf_base::OutOfMemory;
 use gf_groups::Group;
-use gf_ops::{Attr, Form, History, Ids, Points};
+use gf_ops::{Attr, Form, History, Ids, Op, OpId, Points};
 use gf_versions::{Version, settle_all};
 use std::alloc::Global;
 
@@ -176,19 +177,19 @@ fn givers(
         → AreGivers history.now.ops o attribute ids) }
 {
     let found = giving(alloc, history, groups, attribute)?;
-    let ids = rising(alloc, history, &found)?;
+    let ids = ids_of(alloc, &found)?;
     Ok(ids)
 }
 
-/// The positions of the operations that give the attribute its value in one of the groups.
-fn giving(
+/// The operations that give the attribute its value in one of the groups.
+fn giving<'h>(
     alloc: Global,
-    history: &History,
+    history: &'h History,
     groups: &[Group],
     attribute: Attr,
-) -> Result<Vec<usize>, OutOfMemory>
-    ensures { IfOk result (λ found. (k : _) → Contains found.items k
-        ↔ IsLastInOne history.now.ops attribute groups.now k) }
+) -> Result<Vec<&'h Op>, OutOfMemory>
+    ensures { IfOk result (λ found. (a : Op) → Contains (map (λ r. r.now) found.items) a
+        ↔ IsLastInOne history.now.ops attribute groups.now a) }
 {
     let mut found = Vec::new(alloc);
     for group in groups {
@@ -198,20 +199,38 @@ fn giving(
     Ok(found)
 }
 
-/// The positions of the operations that give the attribute its value in the group.
-fn last_setters(
+/// The operations that give the attribute its value in the group.
+fn last_setters<'h>(
     alloc: Global,
-    history: &History,
+    history: &'h History,
     group: &Group,
     attribute: Attr,
-) -> Result<Vec<usize>, OutOfMemory>
-    ensures { IfOk result (λ found. (k : _) → Contains found.items k
-        ↔ IsLastAt history.now.ops attribute group.now.ops k) }
+) -> Result<Vec<&'h Op>, OutOfMemory>
+    ensures { IfOk result (λ found. (a : Op) → Contains (map (λ r. r.now) found.items) a
+        ↔ IsLastIn history.now.ops attribute group.now.ops a) }
+{
+    let members = members(alloc, history, group.ops.as_slice())?;
+    let found = setters(alloc, &members, attribute)?;
+    let last = lasts(alloc, history, &found)?;
+    Ok(last)
+}
+
+/// The operations under these ids.
+fn members<'h>(
+    alloc: Global,
+    history: &'h History,
+    ids: &[OpId],
+) -> Result<Vec<&'h Op>, OutOfMemory>
+    ensures { IfOk result (λ found. (a : Op) → Contains (map (λ r. r.now) found.items) a
+        ↔ IsMember history.now.ops ids.now a) }
 {
     // The clause of `ops` says that the history is valid.
     let _ = history.ops();
-    let members = positions_of(alloc, history, group.ops.as_slice())?;
-    let found = setters(alloc, history, attribute, &members)?;
-    let last = lasts(alloc, history, &found)?;
-    Ok(last)
+    let mut found = Vec::new(alloc);
+    for id in ids {
+        if let Some(op) = history.get(*id) {
+            found.push(op)?;
+        }
+    }
+    Ok(found)
 }

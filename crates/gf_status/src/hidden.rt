@@ -1,20 +1,25 @@
 //! What hides an object, and who changed what is hidden without knowing it.
 
-ghost use Rattle.std.specs.Prelude.{◌≡◌, ◌↔◌, length, Contains, IfOk};
-ghost use Rattle.gf_table.specs.Standing.{ArePositionsOn};
+ghost use Rattle.std.specs.Prelude.{◌≡◌, ◌↔◌, [], length, Contains, IfOk, IsTrue, flat_map, map};
+ghost use Rattle.std.specs.BTreeSet.{contains, insert_key};
+ghost use Rattle.std.specs.List.{fold};
+ghost use Rattle.gf_ops.specs.declared.op.OpId.{OpId};
+ghost use Rattle.gf_ops.specs.OperationOrder.{id_cmp};
+ghost use Rattle.gf_groups.specs.declared.group.Group.{Group};
+ghost use Rattle.gf_table.specs.Standing.{AreOn};
 ghost use Rattle.gf_visible.specs.ShownVersions.{AreVisibleOn};
-ghost use Rattle.gf_status.specs.Members.{IsMemberInOne};
 ghost use Rattle.gf_status.specs.ObjectStatuses.{TellsHidings};
-ghost use Rattle.gf_status.specs.SettersAt.{where_none};
+ghost use Rattle.gf_status.specs.Setters.{where_none};
 ghost use Rattle.gf_status.specs.UnseenChanges.{AreUnseen};
 
-use crate::positions::{positions_of, rising};
-use crate::setters::{hidings, lasts, setters, unknowing};
+use crate::ids::ids_of;
+use crate::setters::{lasts, setters};
+use crate::unseen::{hidings, unknowing};
 use gf_base::OutOfMemory;
 use gf_groups::Group;
-use gf_maximal::Numbers;
-use gf_ops::{Attr, History, Ids, ObjectId};
+use gf_ops::{Attr, History, Ids, ObjectId, Op, OpId};
 use std::alloc::Global;
+use std::collections::BTreeSet;
 
 /// What is told of the hidings of an object.
 #[derive(Drop)]
@@ -23,30 +28,28 @@ pub(crate) struct Hidden {
     pub(crate) changed: Ids,
 }
 
-/// What is told of the hidings of an object with these visible versions. The operations on it stand
-/// at these positions.
+/// What is told of the hidings of an object with these visible versions. All operations on the
+/// object are given.
 pub(crate) fn hidden_of(
     alloc: Global,
     history: &History,
     object: ObjectId,
-    all: &[usize],
+    all: &[&Op],
     groups: &[Group],
 ) -> Result<Hidden, OutOfMemory>
-    requires all { ArePositionsOn history.now.ops object all.now }
+    requires all { AreOn history.now.ops object (map (λ a. a.now) all.now) }
     requires groups { AreVisibleOn history.now.ops object groups.now }
     ensures hidings { IfOk result (λ found.
         TellsHidings history.now.ops object (length groups.now) found.hidings) }
     ensures changed { IfOk result (λ found. AreUnseen history.now.ops object found.changed) }
 {
-    // The clauses of `ops` and `len` say that the history is valid, and that a position fits.
-    let _ = history.ops().len();
-    let found = setters(alloc, history, Attr::Shown, all)?;
+    let found = setters(alloc, all, Attr::Shown)?;
     let last = lasts(alloc, history, &found)?;
-    let seen = members_of(alloc, history, groups)?;
+    let seen = members_of(alloc, groups)?;
     let changed = unknowing(alloc, history, &seen, &found, &last, all)?;
-    let changed = rising(alloc, history, &changed)?;
-    let hiding = hidings(alloc, history, &last)?;
-    let hidings = rising(alloc, history, &hiding)?;
+    let changed = ids_of(alloc, &changed)?;
+    let hiding = hidings(alloc, &last)?;
+    let hidings = ids_of(alloc, &hiding)?;
     Ok(Hidden {
         hidings: where_none(alloc, groups, hidings),
         changed,
@@ -63,17 +66,35 @@ fn where_none(alloc: Global, groups: &[Group], ids: Ids) -> Ids
     }
 }
 
-/// The positions of the operations of these groups.
-fn members_of(alloc: Global, history: &History, groups: &[Group]) -> Result<Numbers, OutOfMemory>
-    ensures { IfOk result (λ seen. (k : _) → Contains seen k
-        ↔ IsMemberInOne history.now.ops groups.now k) }
+/// The ids of the operations of these groups.
+fn members_of(alloc: Global, groups: &[Group]) -> Result<BTreeSet<OpId>, OutOfMemory>
+    ensures { IfOk result (λ seen. (i : OpId) → IsTrue (contains id_cmp seen i)
+        ↔ Contains (flat_map (λ (g : Group). g.ops) groups.now) i) }
 {
-    // The clauses of `ops` and `len` say that the history is valid, and that a position fits.
-    let _ = history.ops().len();
-    let mut found = Vec::new(alloc);
+    let ids = listed(alloc, groups)?;
+    let seen = set_of(alloc, &ids)?;
+    Ok(seen)
+}
+
+/// The ids of the operations of these groups, one group after the other.
+fn listed(alloc: Global, groups: &[Group]) -> Result<Vec<OpId>, OutOfMemory>
+    ensures { IfOk result (λ ids.
+        ids.items ≡ flat_map (λ (g : Group). g.ops) groups.now) }
+{
+    let mut ids = Vec::new(alloc);
     for group in groups {
-        let mut more = positions_of(alloc, history, group.ops.as_slice())?;
-        found.append(&mut more)?;
+        ids.extend_from_slice(group.ops.as_slice())?;
     }
-    Numbers::of(alloc, &found)
+    Ok(ids)
+}
+
+/// The set of the given ids.
+fn set_of(alloc: Global, ids: &[OpId]) -> Result<BTreeSet<OpId>, OutOfMemory>
+    ensures { IfOk result (λ set. set.keys ≡ fold (insert_key id_cmp) [] ids.now) }
+{
+    let mut set = BTreeSet::new(alloc);
+    for id in ids {
+        set.insert(*id)?;
+    }
+    Ok(set)
 }

@@ -12,13 +12,14 @@
 mod counting;
 mod differing;
 mod hidden;
+mod ids;
 mod laws;
 mod lines;
 mod objects;
-mod positions;
 mod run;
 mod setters;
 mod state;
+mod unseen;
 
 pub use differing::Difference;
 pub use laws::a_clean_history_has_no_more_versions_than_a_drawing;

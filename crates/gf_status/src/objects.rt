@@ -1,16 +1,18 @@
 //! The status of each object of a history.
 
-ghost use Rattle.std.specs.Prelude.{◌≡◌, IfOk};
+ghost use Rattle.std.specs.Prelude.{◌≡◌, IfOk, filter, is_some, map};
+ghost use Rattle.gf_ops.specs.declared.op.Op.{Op};
+ghost use Rattle.gf_ops.specs.Attribute.{made_kind};
 ghost use Rattle.gf_groups.specs.declared.group.Group.{Group};
 ghost use Rattle.gf_groups.specs.Versions.{IsMade};
 ghost use Rattle.gf_status.specs.ObjectStatuses.{AreStatuses, IsObjectStatus};
 
 use crate::differing::{Difference, differences};
 use crate::hidden::hidden_of;
-use crate::positions::{creations, rising};
 use gf_base::OutOfMemory;
-use gf_ops::{Ids, ObjectId};
-use gf_table::VersionedHistory;
+use gf_names::rising;
+use gf_ops::{Change, History, Ids, ObjectId, Op, OpId};
+use gf_table::Versions;
 use gf_versions::MOST_VERSIONS;
 use gf_visible::visible_groups;
 use std::alloc::Global;
@@ -38,13 +40,13 @@ pub struct ObjectStatus {
 /// The visible versions of an object are listed, at most 1,000, and no others are multiplied out.
 pub fn object_statuses(
     alloc: Global,
-    versions: &VersionedHistory<'_>,
+    versions: &Versions<'_>,
 ) -> Result<Vec<ObjectStatus>, OutOfMemory>
     ensures { IfOk result (λ found. AreStatuses versions.now found.items) }
 {
     let history = versions.history();
-    let made = creations(alloc, history)?;
-    let ids = rising(alloc, history, &made)?;
+    let made = made(alloc, history)?;
+    let ids = rising(alloc, &made)?;
     let mut found = Vec::new(alloc);
     for id in ids.as_slice() {
         found.push(object_status(alloc, versions, ObjectId(*id))?)?;
@@ -52,10 +54,34 @@ pub fn object_statuses(
     Ok(found)
 }
 
+/// The names of all objects, in the order of their creations.
+fn made(alloc: Global, history: &History) -> Result<Vec<OpId>, OutOfMemory>
+    ensures { IfOk result (λ ids. ids.items ≡ map (λ (a : Op). a.id)
+        (filter (λ (a : Op). is_some (made_kind a.change)) history.now.ops)) }
+{
+    let mut ids = Vec::new(alloc);
+    for op in history.ops() {
+        if makes(op) {
+            ids.push(op.id)?;
+        }
+    }
+    Ok(ids)
+}
+
+/// Whether the operation makes an object.
+fn makes(op: &Op) -> bool
+    ensures { result ≡ is_some (made_kind op.now.change) }
+{
+    match &op.change {
+        Change::Create(_) => true,
+        Change::Set { .. } => false,
+    }
+}
+
 /// The status of an object that the history made.
 fn object_status(
     alloc: Global,
-    versions: &VersionedHistory<'_>,
+    versions: &Versions<'_>,
     object: ObjectId,
 ) -> Result<ObjectStatus, OutOfMemory>
     requires { IsMade versions.now object }
@@ -66,7 +92,7 @@ fn object_status(
     let count = versions.count(object);
     match visible_groups(alloc, versions, object, MOST_VERSIONS)? {
         Some(groups) => {
-            let all = versions.positions(alloc, object)?;
+            let all = versions.operations(alloc, object)?;
             let hidden = hidden_of(alloc, history, object, &all, &groups)?;
             Ok(ObjectStatus {
                 object,

@@ -3,7 +3,7 @@ use Rattle.std.proofs.lemmas.List.{take_all, take_more}
 use Rattle.gf_ops.specs.declared.change.Attr.{Attr}
 use Rattle.gf_ops.specs.declared.change.Attr.TheVariants.{Place}
 use Rattle.gf_status.specs.Differing.{AreDifferences, agrees, differs, none}
-use Rattle.gf_status.specs.SettersAt.{some_differ}
+use Rattle.gf_status.specs.Setters.{some_differ}
 use Rattle.gf_status.proofs.DifferingLemmas.{agrees_told, differs_told}
 use Rattle.gf_status.proofs.differing.differing_of.Goals as goal
 use Rattle.gf_status.proofs.differing.differing_of.Goals.{then-some_differ+in_ok-givers+in_ok-push}

@@ -1,16 +1,16 @@
-use Rattle.std.proofs.Common.{subst, sym}
+use Rattle.std.proofs.Common.{map, subst, sym}
 use Rattle.gf_groups.specs.Versions.{IsVersionGroup}
-use Rattle.gf_table.specs.Standing.{ArePositionsOn}
+use Rattle.gf_table.specs.Standing.{AreOn}
 use Rattle.gf_visible.specs.ShownVersions.{AreVisibleOn}
+use Rattle.gf_status.proofs.LastLemmas.{now}
 use Rattle.gf_status.proofs.StatusLemmas.{visible_versions}
 use Rattle.gf_status.proofs.objects.object_status.Goals as goal
 
 pub hidden_of-requires-clause-all : goal.hidden_of-requires-clause-all
 hidden_of-requires-clause-all c =
-    let on = subst (λ h. ArePositionsOn h c.args.object c.in_ok-all-in-Some.all.items)
+    let on = subst (λ h. AreOn h c.args.object (map now c.in_ok-all-in-Some.all.items))
     (sym c.history-history.ensures.ops) c.in_ok-all-in-Some.ensures in
-    subst (ArePositionsOn c.history-history.result.now.ops c.args.object)
-    (sym c.deref.ensures.value) on
+    rw c.deref.ensures.value on
 
 pub hidden_of-requires-clause-groups : goal.hidden_of-requires-clause-groups
 hidden_of-requires-clause-groups c =

@@ -2,27 +2,21 @@ use Rattle.std.proofs.Common.{◌≡◌, ◌<◌, ◌≤◌, ap, get_or, length,
 use Rattle.std.proofs.lemmas.List.{take_all, take_more}
 use Rattle.gf_ops.specs.declared.op.OpId.{OpId}
 use Rattle.gf_ops.specs.declared.op.ObjectId.{ObjectId}
-use Rattle.gf_status.proofs.StatusLemmas.{AreOf, all_of, made_at, made_told, made_within, of_more}
+use Rattle.gf_status.proofs.StatusLemmas.{AreStatusesOf, all_of, made_at, made_told, of_more}
 use Rattle.gf_status.proofs.objects.object_statuses.Goals as goal
 
 abbrev no_id : OpId
 no_id = record { site = 0; seq = 0 }
 
-pub rising-requires : goal.rising-requires
-rising-requires c =
-    let h = c.history-history.result.now.ops in
-    rw c.deref.ensures.value (made_within h c.in_ok-made.made.items c.in_ok-made.ensures)
-
 pub object_status-requires : goal.object_status-requires
 object_status-requires c =
     let h = c.args.versions.now in
     let made = rw c.history-history.ensures.ops at c.in_ok-made.ensures in
-    let told = rw (c.history-history.ensures.ops, c.deref.ensures.value)
-    at c.in_ok-ids.ensures.exactly in
+    let told = rw c.deref.ensures.value at c.in_ok-ids.ensures in
     let same = c.as_slice-id-items.ensures in
     let within : c.loop-id.id-index < length c.in_ok-ids.ids = rw same at c.loop-id-test.true in
     rw same (made_at h c.in_ok-ids.ids c.loop-id.id-index no_id
-    (made_told h c.in_ok-made.made.items made c.in_ok-ids.ids told) within)
+    (made_told h c.in_ok-made.made.items c.in_ok-ids.ids made told) within)
 
 pub loop-id-preserved : goal.loop-id-preserved
 loop-id-preserved c =
@@ -41,11 +35,11 @@ returns c =
     let h = c.args.versions.now in
     let ids = c.in_ok-ids.ids in
     let made = rw c.history-history.ensures.ops at c.in_ok-made.ensures in
-    let told = rw (c.history-history.ensures.ops, c.deref.ensures.value)
-    at c.in_ok-ids.ensures.exactly in
+    let told = rw c.deref.ensures.value at c.in_ok-ids.ensures in
     let same = c.as_slice-id-items.ensures in
     let past : length ids ≤ c.loop-id.id-index = rw same at c.loop-id-test.false in
     let so_far = rw same at c.loop-id.invariant in
-    all_of h ids c.loop-id.found.items (made_told h c.in_ok-made.made.items made ids told)
-    c.in_ok-ids.ensures.rising
-    (subst (λ is. AreOf h is c.loop-id.found.items) (take_all c.loop-id.id-index ids past) so_far)
+    all_of h ids c.loop-id.found.items (made_told h c.in_ok-made.made.items ids made told)
+    told.rising
+    (subst (λ is. AreStatusesOf h is c.loop-id.found.items) (take_all c.loop-id.id-index ids past)
+    so_far)

@@ -1,8 +1,7 @@
-use Rattle.std.proofs.Common.{◌≡◌, [], take}
-use Rattle.std.specs.List.{fold}
-use Rattle.gf_status.specs.SettersAt.{next_lasts}
+use Rattle.std.proofs.Common.{map, take}
+use Rattle.gf_status.specs.Setters.{AreLastOf}
 use Rattle.gf_status.proofs.setters.lasts.Given as goal
 
-abbrev pub invariant-loop-position : goal.invariant-loop-position
-invariant-loop-position l = l.lasts.items ≡ fold (next_lasts l.history.ops) []
-    (take l.position-index l.positions)
+abbrev pub invariant-loop-op : goal.invariant-loop-op
+invariant-loop-op l = AreLastOf (map (λ a. a.now) (take l.op-index l.ops))
+    (map (λ a. a.now) l.lasts.items)
