@@ -1,4 +1,2 @@
 pub mod BoundsLemmas
 pub mod FittingLemmas
-pub mod FittedLaws
-pub mod LeavingLemmas

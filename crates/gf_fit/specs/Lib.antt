@@ -1,4 +1,3 @@
 pub mod Margins
 pub mod FittedWindow
-pub mod FittedRun
 pub mod JoinedBounds

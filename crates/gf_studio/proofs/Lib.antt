@@ -4,3 +4,5 @@ pub mod ExportLemmas
 pub mod PaintingLemmas
 pub mod AnswerLemmas
 pub mod DrawnLemmas
+pub mod FittedLaws
+pub mod LeavingLemmas

@@ -59,9 +59,25 @@ PictureOf bytes w text = IsPicture (IsMeant bytes) w text
 abbrev pub RepaintOf : List ℕ → View → List ℕ → Type 0
 RepaintOf fig w text = IsPicture (IsDenoted fig) w text
 
+-- IsWindow says in which windows colours are to be painted, and IsShown which colours
+module _ (IsWindow : View → Type 0) (IsShown : (Point → Rgb) → Type 0) where
+  -- the text is the picture in such a window
+  pub record IsPictureIn (text : List ℕ) : Type 0 where
+    pub window : View
+    pub such : IsWindow window
+    pub is : IsPicture IsShown window text
+
+  -- known bytes grow from old to new by the header and whole bands of 64 rows, fewer than all, of
+  -- the picture in such a window
+  pub record WritesBandsIn (old new : Option (List ℕ)) : Type 0 where
+    pub window : View
+    pub such : IsWindow window
+    pub written : WritesBands IsShown window old new
+
 -- what a run leaves of its sink that paints, in window w, colours that IsShown says of the bytes
 -- that are left in its source
 abbrev pub PaintsWindow : {W T : Type 0} → Sink W → Option (List ℕ)
     → (List ℕ → (Point → Rgb) → Type 0) → View → W → W → Result T StudioError → Type 0
 PaintsWindow sink left IsShown w old new result = LeavesPicture sink left
-    (λ bytes. IsPicture (IsShown bytes) w) old new (λ bytes. WritesBands (IsShown bytes) w) result
+    (λ bytes. IsPictureIn (λ v. v ≡ w) (IsShown bytes)) old new
+    (λ bytes. WritesBandsIn (λ v. v ≡ w) (IsShown bytes)) result

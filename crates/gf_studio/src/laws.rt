@@ -16,8 +16,10 @@ ghost use Rattle.gf_fig_read.specs.FigGrammar.{Fails, Reads};
 ghost use Rattle.gf_fig_tokens.specs.declared.faults.FigFault.{FigFault};
 ghost use Rattle.gf_fig_write.specs.FigText.{fig_text};
 ghost use Rattle.gf_fig_write.specs.ShownHistory.{Shows};
+ghost use Rattle.gf_scanline.specs.Frames.{Sides};
 ghost use Rattle.gf_scanline.specs.Windows.{View};
 ghost use Rattle.gf_studio.specs.PaintRun.{PictureOf, RepaintOf};
+ghost use Rattle.gf_studio.specs.PictureRun.{FitsLines, FitsText};
 ghost use Rattle.gf_replay.specs.Denoting.{Denotes, HaveSameOperations};
 ghost use Rattle.gf_replay.specs.Refusing.{Drops, HasFault};
 ghost use Rattle.gf_studio.specs.FigRun.{Draws, IsFigOf, RefusesCompiling};
@@ -83,4 +85,24 @@ pub fn a_text_is_repainted_as_its_history_is_painted()
         ¬ (Fails fig fault n) }
     ensures picture { (bytes fig : List ℕ) → IsFigOf bytes fig → (w : View) (text other : List ℕ) →
         PictureOf bytes w text → RepaintOf fig w other → text ≡ other }
+{}
+
+/// Inputs with the same operations, in whatever order and however often, fit in one window, and
+/// have one picture there.
+pub fn the_same_operations_fit_alike()
+    ensures window { (bytes others : List ℕ) → HaveSameOperations bytes others →
+        (frame : Sides) (v w : View) → FitsLines bytes frame v → FitsLines others frame w → v ≡ w }
+    ensures picture { (bytes others : List ℕ) → HaveSameOperations bytes others →
+        (frame : Sides) (v w : View) → FitsLines bytes frame v → FitsLines others frame w →
+        (text other : List ℕ) → PictureOf bytes v text → PictureOf others w other → text ≡ other }
+{}
+
+/// The FIG text of an input fits in the window in which the input does. It is repainted there as
+/// the input is painted.
+pub fn a_text_fits_as_its_history_does()
+    ensures window { (bytes fig : List ℕ) → IsFigOf bytes fig → (frame : Sides) (v w : View) →
+        FitsLines bytes frame v → FitsText fig frame w → v ≡ w }
+    ensures picture { (bytes fig : List ℕ) → IsFigOf bytes fig → (frame : Sides) (v w : View) →
+        FitsLines bytes frame v → FitsText fig frame w → (text other : List ℕ) →
+        PictureOf bytes v text → RepaintOf fig w other → text ≡ other }
 {}

@@ -5,8 +5,9 @@
 //!   with [`LineCause`] tells why not. It answers how many operations wait, as [`paint_run`] does.
 //! - [`named_fig_run`]: the same, with a comment before each figure that names it; [`NamedRun`]
 //!   tells also of polygons that xfig does not keep.
-//! - [`paint_run`]: reads operation lines and writes the picture of their drawing in a [`Window`].
-//! - [`repaint_run`]: reads a FIG text and writes the picture of the drawing that it reads as.
+//! - [`picture_run`]: reads operation lines or a FIG text, by its [`Format`], and writes a [`Picture`]
+//!   of an [`Extent`]: a [`Window`], or the one of a [`Frame`] that fits. [`Painted`] has the window.
+//! - [`paint_run`], [`repaint_run`]: the same of operation lines, and of a FIG text, in a window.
 //! - [`inspect_run`]: reads operation lines and writes what their history answers to a [`Query`].
 //! - [`input`], [`draw_replica`]: what a run begins with, and the drawing of a replica's history.
 //! - [`drawing_of_lines`], [`drawing_of_fig`]: the drawing that the bytes of a source denote; of
@@ -17,20 +18,24 @@
 //! - [`the_text_of_what_lines_denote_shows_it`]: the law on the FIG text of a history.
 //! - [`a_text_is_repainted_as_its_history_is_painted`]: the law that ties a repainted text to its
 //!   history.
+//! - [`the_same_operations_fit_alike`], [`a_text_fits_as_its_history_does`]: the laws of windows that
+//!   fit.
 //!
 //! [`Source`], [`read_input`], [`MOST_INPUT_BYTES`], [`In`], [`Reel`], [`SourceFault`],
 //! [`InputError`] and [`TextLines`] come from `gf_streams`, [`Window`], [`Gate`] and [`OpenGate`]
-//! from `gf_raster`, and [`LineCause`] from `gf_replay`.
+//! from `gf_raster`, [`Frame`] from `gf_fit`, and [`LineCause`] from `gf_replay`.
 #![tactic(auto)]
 
 mod drawings;
 mod inspecting;
 mod laws;
 mod naming;
+mod painting;
 mod runs;
 mod studio_error;
 
 pub use drawings::{DrawnLines, draw_replica, drawing_of_fig, drawing_of_lines, input};
+pub use gf_fit::Frame;
 pub use gf_raster::{Gate, OpenGate, Window};
 pub use gf_replay::LineCause;
 pub use gf_streams::{
@@ -38,10 +43,11 @@ pub use gf_streams::{
 };
 pub use inspecting::{Query, inspect_run};
 pub use laws::{
-    a_text_is_repainted_as_its_history_is_painted, the_same_histories_draw_alike,
-    the_same_operations_draw_alike, the_text_of_what_lines_denote_shows_it,
-    what_denotes_a_history_is_not_refused,
+    a_text_fits_as_its_history_does, a_text_is_repainted_as_its_history_is_painted,
+    the_same_histories_draw_alike, the_same_operations_draw_alike, the_same_operations_fit_alike,
+    the_text_of_what_lines_denote_shows_it, what_denotes_a_history_is_not_refused,
 };
 pub use naming::{NamedRun, named_fig_run};
+pub use painting::{Extent, Format, Painted, Picture, picture_run};
 pub use runs::{fig_run, paint_run, repaint_run};
 pub use studio_error::StudioError;

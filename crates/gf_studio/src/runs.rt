@@ -7,9 +7,10 @@ ghost use Rattle.gf_studio.specs.RefusedRuns.{RefusesFig, RefusesLines};
 ghost use Rattle.gf_studio.specs.RunAnswers.{LeavesSink, ReadsInput};
 
 use crate::StudioError;
-use crate::drawings::{drawing_of_fig, drawing_of_lines};
+use crate::drawings::drawing_of_lines;
+use crate::painting::{Extent, Format, Picture, picture_run};
 use gf_fig_write::write_fig;
-use gf_raster::{Gate, Window, ppm_to};
+use gf_raster::{Gate, Window};
 use gf_streams::{Sink, Source};
 use std::alloc::Global;
 use std::thread::Threads;
@@ -80,9 +81,12 @@ pub fn paint_run<T: Threads + Sync, R: Source, W: Sink, G: Gate + Sync>(
     ensures sink { PaintsWindow W.Sink (R.left source.old) IsMeant window sink.old sink.new
         result }
 {
-    let meant = drawing_of_lines(rt, alloc, source, workers)?;
-    ppm_to(rt, alloc, &meant.drawing, window, workers, gate, sink)?;
-    Ok(meant.waiting)
+    let picture = Picture {
+        format: Format::Lines,
+        extent: Extent::Window(window),
+    };
+    let painted = picture_run(rt, alloc, source, sink, picture, workers, gate)?;
+    Ok(painted.waiting)
 }
 
 /// Reads a FIG text to its end, and writes the picture of its drawing in a window. The picture is
@@ -109,7 +113,10 @@ pub fn repaint_run<T: Threads + Sync, R: Source, W: Sink, G: Gate + Sync>(
     ensures sink { PaintsWindow W.Sink (R.left source.old) IsDenoted window sink.old sink.new
         result }
 {
-    let denoted = drawing_of_fig(alloc, source)?;
-    ppm_to(rt, alloc, &denoted, window, workers, gate, sink)?;
+    let picture = Picture {
+        format: Format::Fig,
+        extent: Extent::Window(window),
+    };
+    picture_run(rt, alloc, source, sink, picture, workers, gate)?;
     Ok(())
 }

@@ -1,5 +1,5 @@
-use Rattle.gf_fit.proofs.FittedLaws.{fit_alike, fit_alike-picture}
-use Rattle.gf_fit.proofs.laws.the_same_operations_fit_alike.Goals as goal
+use Rattle.gf_studio.proofs.FittedLaws.{fit_alike, fit_alike-picture}
+use Rattle.gf_studio.proofs.laws.the_same_operations_fit_alike.Goals as goal
 
 pub returns-clause-window : goal.returns-clause-window
 returns-clause-window c = λ bytes others have frame v w x y.

@@ -1,5 +1,5 @@
-use Rattle.gf_fit.proofs.FittedLaws.{text_fits, text_fits-picture}
-use Rattle.gf_fit.proofs.laws.a_text_fits_as_its_history_does.Goals as goal
+use Rattle.gf_studio.proofs.FittedLaws.{text_fits, text_fits-picture}
+use Rattle.gf_studio.proofs.laws.a_text_fits_as_its_history_does.Goals as goal
 
 pub returns-clause-window : goal.returns-clause-window
 returns-clause-window c = λ bytes fig x frame v w y z.

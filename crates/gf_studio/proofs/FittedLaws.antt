@@ -19,7 +19,7 @@ use Rattle.gf_studio.specs.FigRun.{Draws, IsFigOf}
 use Rattle.gf_studio.specs.PaintRun.{PictureOf, RepaintOf}
 use Rattle.gf_studio.proofs.PaintingLemmas.{text_repaints}
 use Rattle.gf_studio.proofs.SameLemmas.{draw_alike, histories_draw, paint_alike}
-use Rattle.gf_fit.specs.FittedRun.{FitsLines, FitsText}
+use Rattle.gf_studio.specs.PictureRun.{FitsLines, FitsText}
 use Rattle.gf_fit.specs.FittedWindow.{IsFitted, held}
 use Rattle.gf_fit.proofs.FittingLemmas.{one_window}
 
