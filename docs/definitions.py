@@ -13,12 +13,12 @@ from pathlib import Path
 ROOT = Path(__file__).resolve().parent.parent
 CRATES = ROOT / "crates"
 PAGE = ROOT / "docs" / "DEFINITIONS.md"
-# The letter of each command, its name, and the functions that run it.
+# The letter of each command, its name, and the functions that run it. A window that fits is told by a definition.
 COMMANDS = {
     "f": ("fig", "gf_studio.fig_run"),
     "n": ("fig --named", "gf_studio.named_fig_run"),
-    "p": ("paint", "gf_studio.paint_run gf_fit.paint_fitted_run"),
-    "r": ("repaint", "gf_studio.repaint_run gf_fit.repaint_fitted_run"),
+    "p": ("paint", "gf_studio.paint_run gf_studio.PictureRun.FitsLines"),
+    "r": ("repaint", "gf_studio.repaint_run gf_studio.PictureRun.FitsText"),
     "i": ("inspect", "gf_studio.inspect_run"),
     "m": ("import", "gf_import.import_run"),
     "e": ("edit", "gf_edit.edit_run"),
@@ -182,6 +182,9 @@ def rests_on(files, places):
                 left.append((here, name) if local else imports[name])
 
     for place in places.split():
+        if place.count(".") == 2:
+            left.append(tuple(place.rsplit(".", 1)))
+            continue
         whole, imports, traits = contract(place)
         found |= traits
         follow(whole.names(), imports, None)

@@ -16,6 +16,8 @@ use Rattle.gf_scanline.specs.Frames.{Sides}
 use Rattle.gf_scanline.specs.Windows.{View}
 use Rattle.gf_studio.specs.declared.inspecting.Query.{Query}
 use Rattle.gf_studio.specs.declared.inspecting.Query.TheVariants.{Object, At}
+use Rattle.gf_studio.specs.declared.painting.Extent.{Extent}
+use Rattle.gf_studio.specs.declared.painting.Extent.TheVariants as extent
 use Rattle.gf_command.specs.declared.runs.Asked.{Asked}
 use Rattle.gf_command.specs.declared.runs.Asked.TheVariants as asked
 use Rattle.gf_command.specs.declared.runs.Mistake.{Mistake}
@@ -25,8 +27,6 @@ use Rattle.gf_command.specs.declared.runs.QueryFault.TheVariants.{NotOne, Unread
 use Rattle.gf_command.specs.declared.runs.Workers.{Workers}
 use Rattle.gf_command.specs.declared.runs.Editor.{Editor}
 use Rattle.gf_command.specs.declared.runs.Canvas.{Canvas}
-use Rattle.gf_command.specs.declared.runs.Extent.{Extent}
-use Rattle.gf_command.specs.declared.runs.Extent.TheVariants as extent
 use Rattle.gf_command.specs.declared.runs.Run.{Run}
 use Rattle.gf_command.specs.declared.runs.Run.TheVariants.{Fig, NamedFig, Paint, Repaint}
 use Rattle.gf_command.specs.declared.runs.Run.TheVariants.{Inspect, Import, Edit, Take, Status}

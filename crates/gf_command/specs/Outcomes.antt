@@ -1,8 +1,10 @@
 -- What an outcome says of the output, and which window it tells. No public clause cites this
 -- module.
-use Rattle.std.specs.Prelude.{ℕ, List, Option}
+use Rattle.std.specs.Prelude.{ℕ, List, Option, None, Some}
 use Rattle.gf_command.specs.declared.runs.Run.{Run}
 use Rattle.gf_scanline.specs.Windows.{View}
+use Rattle.gf_studio.specs.declared.painting.Extent.{Extent}
+use Rattle.gf_studio.specs.declared.painting.Extent.TheVariants.{Fitted, Window}
 use Rattle.gf_command.specs.declared.chosen.Chosen.{Chosen}
 use Rattle.gf_command.specs.declared.answering.Outcome.{Outcome}
 use Rattle.gf_command.specs.declared.answering.Outcome.TheVariants as outcome
@@ -17,3 +19,8 @@ AnswersSo other run bytes old new = Answers run bytes old new
 -- the numbers of a window
 abbrev pub numbers_of : View → Chosen
 numbers_of w = record { x = w.x; y = w.y; step = w.step; width = w.width; height = w.height }
+
+-- the numbers of a window that was chosen
+abbrev pub chosen_numbers : Extent → View → Option Chosen
+chosen_numbers (Window v) w = None
+chosen_numbers (Fitted frame) w = Some (numbers_of w)

@@ -1,14 +1,14 @@
 -- What the runs of the program leave on their output (this project's choice).
 use Rattle.std.specs.Prelude.{◌≡◌, ◌⊎◌, ℕ, true, List, Option, option_map}
-use Rattle.gf_shape.specs.declared.colour.Rgb.{Rgb}
-use Rattle.gf_shape.specs.declared.point.Point.{Point}
-use Rattle.gf_scanline.specs.Frames.{Sides}
 use Rattle.gf_scanline.specs.Windows.{View}
+use Rattle.gf_studio.specs.declared.painting.Extent.{Extent}
+use Rattle.gf_studio.specs.declared.painting.Format.{Format}
+use Rattle.gf_studio.specs.declared.painting.Format.TheVariants as input
 use Rattle.gf_studio.specs.FigRun.{Exports, IsFigOf, IsNamedOf, Writes, WritesNamed}
 use Rattle.gf_studio.specs.InspectRun.{AnswersQuery, WritesAnswer}
-use Rattle.gf_studio.specs.PaintRun.{IsDenoted, IsMeant, IsPicture, WritesBands, WritesPicture}
+use Rattle.gf_studio.specs.PaintRun.{WritesPicture}
+use Rattle.gf_studio.specs.PictureRun.{IsShownBy, IsWindowOf, Paints, PaintsBands}
 use Rattle.gf_studio.specs.RunAnswers.{WritesPrefix}
-use Rattle.gf_fit.specs.FittedRun.{FitsLines, FitsText, IsFittedPicture, WritesFittedBands}
 use Rattle.gf_import.specs.ImportRun.{Imports, WritesImport}
 use Rattle.gf_edit.specs.declared.made.Made.{Made}
 use Rattle.gf_edit.specs.EditRun.{IsEditOf, WritesEdit}
@@ -23,8 +23,6 @@ use Rattle.gf_check.specs.CheckRun.{WritesCheck}
 use Rattle.gf_session_run.specs.SessionRun.{TellsSession, WritesSession}
 use Rattle.gf_command.specs.declared.runs.Run.{Run}
 use Rattle.gf_command.specs.declared.runs.Editor.{Editor}
-use Rattle.gf_command.specs.declared.runs.Extent.{Extent}
-use Rattle.gf_command.specs.declared.runs.Extent.TheVariants.{Window, Fitted}
 use Rattle.gf_command.specs.declared.runs.Run.TheVariants.{Fig, NamedFig, Paint, Repaint}
 use Rattle.gf_command.specs.declared.runs.Run.TheVariants.{Inspect, Import, Edit, Take, Status}
 use Rattle.gf_command.specs.declared.runs.Run.TheVariants.{Check, Session}
@@ -33,21 +31,16 @@ use Rattle.gf_command.specs.declared.runs.Run.TheVariants.{Check, Session}
 abbrev pub site_of : Option Editor → Option ℕ
 site_of editor = option_map (λ e. e.site) editor
 
--- Fits says which windows of a frame fit, IsShown which colours are to be painted. Known bytes grow
--- from old to new
-module _ (Fits : Sides → View → Type 0) (IsShown : (Point → Rgb) → Type 0)
-    (old new : Option (List ℕ)) where
-  -- known bytes grow by the picture in this window, or in one that fits
-  abbrev pub WritesExtent : Extent → Type 0
-  WritesExtent (Window w) = WritesPicture IsShown w old new
-  WritesExtent (Fitted frame) = (w : View) × Fits frame w × WritesPicture IsShown w old new
+-- known bytes grow from old to new by the picture, in the window that the extent asks for, of an
+-- input of this format
+abbrev pub WritesExtent : Format → Extent → List ℕ → Option (List ℕ) → Option (List ℕ) → Type 0
+WritesExtent format extent bytes old new =
+    (w : View) × IsWindowOf format extent bytes w × WritesPicture (IsShownBy format bytes) w old new
 
-  -- known bytes grow by a prefix of such a picture, perhaps by whole bands
-  abbrev pub WritesExtentPrefix : Extent → Type 0
-  WritesExtentPrefix (Window w) =
-      WritesPrefix (IsPicture IsShown w) old new ⊎ WritesBands IsShown w old new
-  WritesExtentPrefix (Fitted frame) = WritesPrefix (IsFittedPicture (Fits frame) IsShown) old new
-      ⊎ WritesFittedBands (Fits frame) IsShown old new
+-- known bytes grow by a prefix of such a picture, perhaps by whole bands
+abbrev pub WritesExtentPrefix : Format → Extent → List ℕ → Option (List ℕ) → Option (List ℕ) → Type 0
+WritesExtentPrefix format extent bytes old new =
+    WritesPrefix (Paints format extent bytes) old new ⊎ PaintsBands format extent bytes old new
 
 -- known bytes grow from old to new by what the run asks for. This is the FIG text, the picture, the
 -- status or the answer to a query of what the bytes denote. Or it is the picture of a FIG text's
@@ -58,9 +51,9 @@ abbrev pub Answers : Run → List ℕ → Option (List ℕ) → Option (List ℕ
 Answers (Fig workers) bytes old new = Exports bytes old new × Writes bytes old new
 Answers (NamedFig workers) bytes old new = Exports bytes old new × WritesNamed bytes old new
 Answers (Paint canvas) bytes old new =
-    WritesExtent (FitsLines bytes) (IsMeant bytes) old new canvas.extent
+    WritesExtent input.Lines canvas.extent bytes old new
 Answers (Repaint canvas) bytes old new =
-    WritesExtent (FitsText bytes) (IsDenoted bytes) old new canvas.extent
+    WritesExtent input.Fig canvas.extent bytes old new
 Answers (Inspect query workers) bytes old new = WritesAnswer query bytes old new
 Answers (Import editor) bytes old new = WritesImport editor.site bytes old new
 Answers (Edit editor) bytes old new =
@@ -79,9 +72,9 @@ abbrev pub AnswersPrefix : Run → List ℕ → Option (List ℕ) → Option (Li
 AnswersPrefix (Fig workers) bytes old new = WritesPrefix (IsFigOf bytes) old new
 AnswersPrefix (NamedFig workers) bytes old new = WritesPrefix (IsNamedOf bytes) old new
 AnswersPrefix (Paint canvas) bytes old new =
-    WritesExtentPrefix (FitsLines bytes) (IsMeant bytes) old new canvas.extent
+    WritesExtentPrefix input.Lines canvas.extent bytes old new
 AnswersPrefix (Repaint canvas) bytes old new =
-    WritesExtentPrefix (FitsText bytes) (IsDenoted bytes) old new canvas.extent
+    WritesExtentPrefix input.Fig canvas.extent bytes old new
 AnswersPrefix (Inspect query workers) bytes old new =
     WritesPrefix (AnswersQuery query bytes) old new
 AnswersPrefix (Import editor) bytes old new = WritesPrefix (Imports editor.site bytes) old new

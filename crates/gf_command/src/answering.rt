@@ -9,8 +9,7 @@ ghost use Rattle.gf_command.specs.Outcomes.{AnswersSo};
 ghost use Rattle.gf_command.specs.Asking.{AreMistaken, Asks, AsksHelp};
 ghost use Rattle.gf_command.specs.declared.runs.Run.{Run};
 
-use crate::chosen::Chosen;
-use crate::painting::{paint, repaint};
+use crate::painting::{Told, paint};
 use crate::refusal::Refusal;
 use crate::since::Since;
 use crate::thin::Thin;
@@ -25,7 +24,7 @@ use gf_ops::ObjectId;
 use gf_session_run::session_run;
 use gf_status::{State, status_run};
 use gf_streams::{Sink, Source, WriteError, write_whole};
-use gf_studio::{NamedRun, OpenGate, StudioError, fig_run, inspect_run, named_fig_run};
+use gf_studio::{Format, NamedRun, OpenGate, StudioError, fig_run, inspect_run, named_fig_run};
 use gf_take_run::{Taken, take_run};
 use std::alloc::{AllocError, Global};
 use std::io;
@@ -74,9 +73,7 @@ pub fn command<T: Threads + Wait + Sync, R: Source, W: Sink, E: Sink>(
             Ok(Outcome::Taken(taken)) => tell_taken(alloc, taken, faults),
             Ok(Outcome::Drawn(waiting)) => tell_waiting(alloc, waiting, faults),
             Ok(Outcome::Named(run)) => tell_named(alloc, run, faults),
-            Ok(Outcome::Painted(chosen, waiting)) => {
-                tell_painted(alloc, chosen, waiting, faults)
-            }
+            Ok(Outcome::Painted(told)) => tell_painted(alloc, told, faults),
             Ok(Outcome::Open) => 1,
             Err(error) => refuse(alloc, error, faults),
         },
@@ -104,8 +101,8 @@ pub(crate) enum Outcome {
     Drawn(usize),
     /// A text with names is written, of which this is told.
     Named(NamedRun),
-    /// The picture is written, in a window that was chosen, and so many operations wait.
-    Painted(Chosen, usize),
+    /// The picture is written, of which this is told.
+    Painted(Told),
     /// An edit is written, which made these operations, or none.
     Made(Option<Made>),
     /// A take is written, of which this is told.
@@ -138,8 +135,14 @@ fn answer<T: Threads + Wait + Sync, R: Source, W: Sink>(
             let named = named_fig_run(rt, alloc, source, output, workers.count)?;
             return Ok(Outcome::Named(named));
         }
-        Run::Paint(canvas) => return paint(rt, alloc, source, output, canvas),
-        Run::Repaint(canvas) => return repaint(rt, alloc, source, output, canvas),
+        Run::Paint(canvas) => {
+            let told = paint(rt, alloc, source, output, Format::Lines, canvas)?;
+            return Ok(Outcome::Painted(told));
+        }
+        Run::Repaint(canvas) => {
+            let told = paint(rt, alloc, source, output, Format::Fig, canvas)?;
+            return Ok(Outcome::Painted(told));
+        }
         Run::Inspect { query, workers } => {
             inspect_run(rt, alloc, source, output, query, workers.count)?
         }
@@ -227,13 +230,15 @@ fn tell_taken<E: Sink>(alloc: Global, taken: Taken, faults: &mut E) -> u8
 }
 
 /// Tells the window that was chosen, and behind it how many operations wait. Answers the status.
-fn tell_painted<E: Sink>(alloc: Global, chosen: Chosen, waiting: usize, faults: &mut E) -> u8
+fn tell_painted<E: Sink>(alloc: Global, told: Told, faults: &mut E) -> u8
     ensures { result ≡ 0 }
 {
-    if let Ok(text) = format!(in alloc; "figgroup: painted {chosen}\n") {
-        let _ = write_whole(faults, text.as_bytes());
+    if let Some(chosen) = told.chosen {
+        if let Ok(text) = format!(in alloc; "figgroup: painted {chosen}\n") {
+            let _ = write_whole(faults, text.as_bytes());
+        }
     }
-    tell_waiting(alloc, waiting, faults)
+    tell_waiting(alloc, told.waiting, faults)
 }
 
 /// Tells how many operations wait, where some do, and answers the status. Where no memory is left

@@ -14,11 +14,10 @@ ghost use Rattle.gf_command.specs.Asking.{is_given, is_placed, is_placed_fit, is
 
 use crate::describing::program;
 use crate::querying::{spelt_id, spelt_point};
-use crate::runs::{Asked, Canvas, Editor, Extent, Mistake, QueryFault, Run, Workers};
+use crate::runs::{Asked, Canvas, Editor, Mistake, QueryFault, Run, Workers};
 use clap::{ArgMatches, Error};
-use gf_fit::Frame;
 use gf_ops::ObjectId;
-use gf_studio::{Query, Window};
+use gf_studio::{Extent, Frame, Query, Window};
 use std::alloc::Global;
 
 /// Reads the words, the first of which is the program's name. The answer is none where an option

@@ -1,9 +1,9 @@
 //! What is told of a window that was chosen.
 
 ghost use Rattle.std.specs.Prelude.{◌≡◌};
-ghost use Rattle.gf_command.specs.Outcomes.{numbers_of};
+ghost use Rattle.gf_command.specs.Outcomes.{chosen_numbers, numbers_of};
 
-use gf_studio::Window;
+use gf_studio::{Extent, Window};
 use std::fmt;
 
 /// The numbers of a window, which is told in the words that choose it again.
@@ -23,8 +23,18 @@ impl fmt::Display for Chosen {
     }
 }
 
+/// The numbers of a window, where it was chosen.
+pub(crate) fn chosen_numbers(extent: Extent, window: Window) -> Option<Chosen>
+    ensures { result ≡ chosen_numbers extent window }
+{
+    match extent {
+        Extent::Window(_) => None,
+        Extent::Fitted(_) => Some(numbers_of(window)),
+    }
+}
+
 /// The numbers of this window.
-pub(crate) fn numbers_of(window: Window) -> Chosen
+fn numbers_of(window: Window) -> Chosen
     ensures { result ≡ numbers_of window }
 {
     let height = window.height();

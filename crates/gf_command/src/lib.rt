@@ -5,7 +5,7 @@
 //! - [`parse`]: reads the words. [`Asked`] has the [`Run`] that they ask for, or a [`Mistake`] in
 //!   its options; clap's error has the text of a help, a version or another mistake.
 //! - [`Canvas`]: which [`Extent`] of the plane a run paints; [`Workers`]: how many threads read and
-//!   paint; [`Editor`]: which site makes operations.
+//!   paint; [`Editor`]: which site makes operations. [`Extent`] is that of `gf_studio`.
 #![tactic(auto)]
 
 mod answering;
@@ -22,4 +22,5 @@ mod waiting;
 
 pub use answering::{command, refuse_words};
 pub use asking::parse;
-pub use runs::{Asked, Canvas, Editor, Extent, Mistake, QueryFault, Run, Workers};
+pub use gf_studio::Extent;
+pub use runs::{Asked, Canvas, Editor, Mistake, QueryFault, Run, Workers};

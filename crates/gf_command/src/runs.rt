@@ -3,8 +3,7 @@
 ghost use Rattle.std.specs.Prelude.{◌≤◌};
 ghost use Rattle.gf_ops.specs.OperationOrder.{IsSite};
 
-use gf_fit::Frame;
-use gf_studio::{Query, Window};
+use gf_studio::{Extent, Query};
 
 /// What the words ask for.
 #[derive(Clone, Copy)]
@@ -65,15 +64,6 @@ pub enum QueryFault {
 pub struct Editor {
     pub site: u8,
     ghost in_range: { IsSite site },
-}
-
-/// Which part of the plane a picture shows.
-#[derive(Clone, Copy)]
-pub enum Extent {
-    /// This window.
-    Window(Window),
-    /// The window with this frame that fits what is drawn.
-    Fitted(Frame),
 }
 
 /// How many threads read operation lines and paint, 1 to 16.

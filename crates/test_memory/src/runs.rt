@@ -7,7 +7,6 @@ use crate::trial::{Came, Marks};
 use gf_check::check_run;
 use gf_edit::{EditError, edit_run};
 use gf_fig_write::fig_bytes;
-use gf_fit::{Frame, paint_fitted_run, repaint_fitted_run};
 use gf_import::{ImportError, import_run};
 use gf_json::op_line;
 use gf_ops::ObjectId;
@@ -17,8 +16,8 @@ use gf_shape::OutOfMemory;
 use gf_status::status_run;
 use gf_streams::{Reel, Tape};
 use gf_studio::{
-    DrawnLines, OpenGate, Query, StudioError, Window, fig_run, inspect_run, named_fig_run,
-    paint_run, repaint_run,
+    DrawnLines, Extent, Format, Frame, OpenGate, Picture, Query, StudioError, Window, fig_run,
+    inspect_run, named_fig_run, paint_run, picture_run, repaint_run,
 };
 use gf_take_run::{TakeRunError, take_run};
 use std::alloc::Global;
@@ -34,8 +33,8 @@ fig_run may do without
 named_fig_run may do without
 paint_run may do without
 repaint_run may do without
-paint_fitted_run may do without
-repaint_fitted_run may do without
+picture_run may do without
+picture_run_fig may do without
 inspect_run may do without
 inspect_run_at may do without
 import_run
@@ -60,8 +59,8 @@ pub(crate) fn tried<T: Threads + Wait + Sync>(
         "named_fig_run" => Some(named_fig(rt, alloc, marks)),
         "paint_run" => paint(rt, alloc, marks),
         "repaint_run" => repaint(rt, alloc, marks),
-        "paint_fitted_run" => paint_fitted(rt, alloc, marks),
-        "repaint_fitted_run" => repaint_fitted(rt, alloc, marks),
+        "picture_run" => paint_fitted(rt, alloc, marks),
+        "picture_run_fig" => repaint_fitted(rt, alloc, marks),
         "inspect_run" => inspect(rt, alloc, marks, Query::Object(ObjectId(BOX)), TWO_VERSIONS),
         "inspect_run_at" => inspect(rt, alloc, marks, Query::At(at(10, 10)), TOP),
         "import_run" => Some(import(rt, alloc, marks)),
@@ -81,8 +80,7 @@ enum Run {
     NamedFig,
     Paint(Window),
     Repaint(Window),
-    PaintFitted(Frame),
-    RepaintFitted(Frame),
+    Picture(Picture),
     Inspect(Query),
     Import,
     Edit,
@@ -146,12 +144,8 @@ impl Example<'_> {
                 Ok(())
             }
             Run::Repaint(window) => repaint_run(rt, alloc, &mut source, tape, window, 2, &OpenGate),
-            Run::PaintFitted(frame) => {
-                paint_fitted_run(rt, alloc, &mut source, tape, frame, 2, &OpenGate)?;
-                Ok(())
-            }
-            Run::RepaintFitted(frame) => {
-                repaint_fitted_run(rt, alloc, &mut source, tape, frame, 2, &OpenGate)?;
+            Run::Picture(picture) => {
+                picture_run(rt, alloc, &mut source, tape, picture, 2, &OpenGate)?;
                 Ok(())
             }
             Run::Import => match import_run(alloc, &mut source, tape, 2) {
@@ -312,10 +306,13 @@ fn paint_fitted<T: Threads + Wait + Sync>(
     alloc: Global,
     marks: &mut Marks,
 ) -> Option<Came> {
-    let frame = Frame::new(3, 2).ok()?;
+    let picture = Picture {
+        format: Format::Lines,
+        extent: Extent::Fitted(Frame::new(3, 2).ok()?),
+    };
     let input = lines(alloc, MOVED)?;
     let example = Example {
-        run: Run::PaintFitted(frame),
+        run: Run::Picture(picture),
         input: input.as_bytes(),
         whole: b"P6\n3 2\n255\n\xff\xff\xff\x00\xff\x00\xff\xff\xff\xff\xff\xff\x00\xff\x00\xff\xff\xff",
         cuts: &[0, 11],
@@ -328,9 +325,12 @@ fn repaint_fitted<T: Threads + Wait + Sync>(
     alloc: Global,
     marks: &mut Marks,
 ) -> Option<Came> {
-    let frame = Frame::new(1, 1).ok()?;
+    let picture = Picture {
+        format: Format::Fig,
+        extent: Extent::Fitted(Frame::new(1, 1).ok()?),
+    };
     let example = Example {
-        run: Run::RepaintFitted(frame),
+        run: Run::Picture(picture),
         input: TRIANGLE,
         whole: b"P6\n1 1\n255\n\xff\x00\x00",
         cuts: &[0, 11],

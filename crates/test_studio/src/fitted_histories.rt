@@ -1,10 +1,10 @@
 //! The windows that fit histories, worked out from the rules: margins, step and middle.
 
 use crate::frames::{frame, told};
-use gf_fit::{Frame, paint_fitted_run};
+use gf_fit::Frame;
 use gf_json::op_line;
 use gf_streams::{Reel, Tape};
-use gf_studio::{OpenGate, paint_run};
+use gf_studio::{Extent, Format, OpenGate, Picture, paint_run, picture_run};
 use std::alloc::Global;
 use std::test::Fail;
 use std::thread::Threads;
@@ -91,7 +91,11 @@ fn lines(alloc: Global, operations: &str) -> Option<Vec<u8>> {
 fn painted<T: Threads + Sync>(rt: &T, alloc: Global, frame: Frame, input: &[u8]) -> Option<String> {
     let mut fitted = Tape::new(alloc, None);
     let mut source = Reel::new(input, None);
-    let painted = paint_fitted_run(rt, alloc, &mut source, &mut fitted, frame, 2, &OpenGate).ok()?;
+    let picture = Picture {
+        format: Format::Lines,
+        extent: Extent::Fitted(frame),
+    };
+    let painted = picture_run(rt, alloc, &mut source, &mut fitted, picture, 2, &OpenGate).ok()?;
     let window = painted.window;
     let mut plain = Tape::new(alloc, None);
     let mut source = Reel::new(input, None);

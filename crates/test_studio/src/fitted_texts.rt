@@ -1,9 +1,9 @@
 //! The windows that fit FIG texts, whose points lie as far as 10,000,000 from the axes.
 
 use crate::frames::{frame, told};
-use gf_fit::{Frame, repaint_fitted_run};
+use gf_fit::Frame;
 use gf_streams::{Reel, Tape};
-use gf_studio::{OpenGate, repaint_run};
+use gf_studio::{Extent, Format, OpenGate, Picture, picture_run, repaint_run};
 use std::alloc::Global;
 use std::test::Fail;
 use std::thread::Threads;
@@ -55,7 +55,12 @@ fn repainted<T: Threads + Sync>(
 ) -> Option<String> {
     let mut fitted = Tape::new(alloc, None);
     let mut source = Reel::new(input, None);
-    let window = repaint_fitted_run(rt, alloc, &mut source, &mut fitted, frame, 2, &OpenGate).ok()?;
+    let picture = Picture {
+        format: Format::Fig,
+        extent: Extent::Fitted(frame),
+    };
+    let painted = picture_run(rt, alloc, &mut source, &mut fitted, picture, 2, &OpenGate).ok()?;
+    let window = painted.window;
     let mut plain = Tape::new(alloc, None);
     let mut source = Reel::new(input, None);
     repaint_run(rt, alloc, &mut source, &mut plain, window, 1, &OpenGate).ok()?;
