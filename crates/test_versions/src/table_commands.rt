@@ -12,7 +12,7 @@ use gf_site::Site;
 use gf_versions::Ranked;
 use gf_visible::{ranked_with, ranked_within, visible_groups};
 use std::alloc::Global;
-use test_kit::notation::id;
+use test_kit::notation::{id, push_ids};
 
 /// The groups of an object, by the table.
 pub(crate) fn groups(alloc: Global, site: &Site, text: &str) -> Option<String> {
@@ -25,6 +25,19 @@ pub(crate) fn copied(alloc: Global, site: &Site, text: &str) -> Option<String> {
     let object = ObjectId(id(text)?);
     let copy = site.table().copy(alloc).ok()?;
     told(alloc, copy.groups(alloc, site.history(), object))
+}
+
+/// The ids of the operations on an object, rising.
+pub(crate) fn operations(alloc: Global, site: &Site, text: &str) -> Option<String> {
+    let object = ObjectId(id(text)?);
+    let mut ids = Vec::new(alloc);
+    for op in site.versions().operations(alloc, object).ok()? {
+        ids.push(op.id).ok()?;
+    }
+    ids.sort().ok()?;
+    let mut text = String::new(alloc);
+    push_ids(alloc, &mut text, &ids)?;
+    Some(text)
 }
 
 fn told(alloc: Global, groups: Result<Groups, GroupFault>) -> Option<String> {

@@ -63,6 +63,7 @@ fn told_of(alloc: Global, site: &Site, verb: &str, text: &str) -> Option<String>
         "plain" => version_commands::groups(alloc, site.history(), text),
         "plain_count" => version_commands::versions(alloc, site.history(), text),
         "copied" => table_commands::copied(alloc, site, text),
+        "operations" => table_commands::operations(alloc, site, text),
         "visible" => table_commands::visible(alloc, site, text),
         "ranked" => table_commands::ranking(alloc, site, text),
         "total" => table_commands::total(alloc, site),

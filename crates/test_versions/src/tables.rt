@@ -16,6 +16,8 @@ add 3.1 after 1: 1.1 colour 0000ff | ok
 groups 1.1                         | [ 1.1 1.2 3.1 ][ 1.1 2.1 ]
 copied 1.1                         | [ 1.1 1.2 3.1 ][ 1.1 2.1 ]
 groups 2.1                         | NoObject
+operations 1.1                     | [ 1.1 1.2 2.1 3.1 ]
+operations 2.1                     | [ ]
 // The same with 2.1 before 1.2.
 new                                | ok
 add 1.1: box 10 10                 | ok
@@ -37,6 +39,7 @@ groups 1.1                         | [ 1.1 1.2 1.3 ][ 1.1 1.3 2.1 ]
 add 2.2 after 1 1: 1.1 layer 3     | ok
 groups 1.1                         | [ 1.1 1.2 1.3 ][ 1.1 1.2 2.2 ][ 1.1 1.3 2.1 ][ 1.1 2.1 2.2 ]
 copied 1.1                         | [ 1.1 1.2 1.3 ][ 1.1 1.2 2.2 ][ 1.1 1.3 2.1 ][ 1.1 2.1 2.2 ]
+operations 1.1                     | [ 1.1 1.2 1.3 2.1 2.2 ]
 visible 1.1 within 4               | 4
 visible 1.1 within 3               | more
 
