@@ -35,10 +35,11 @@ pub(crate) fn paint<T: Threads + Sync, R: Source, W: Sink>(
         IfSome (R.left source.old) (λ bytes. WritesExtentPrefix format canvas.extent bytes
         (W.taken output.old) (W.taken output.new))) }
 {
-    let Canvas { extent, workers } = canvas;
+    let extent = canvas.extent;
+    let workers = canvas.workers.count;
     let picture = Picture { format, extent };
-    let painted = picture_run(rt, alloc, source, output, picture, workers.count, &OpenGate)?;
-    let chosen = chosen_numbers(extent, painted.window);
+    let painted = picture_run(rt, alloc, source, output, picture, workers, &OpenGate)?;
+    let chosen = chosen_numbers(canvas.extent, painted.window);
     let waiting = painted.waiting;
     Ok(Told { chosen, waiting })
 }

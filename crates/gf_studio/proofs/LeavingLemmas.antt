@@ -1,6 +1,6 @@
--- In which windows a run paints, and what it leaves of its sink.
-use Rattle.std.specs.Prelude.{Err, IfSome, None, Option, Result, Some}
-use Rattle.std.proofs.Common.{◌≡◌, ◌⊎◌, ◌∙◌, List, ap, inl, inr, refl, subst, sym, ℕ}
+-- In which windows a run paints, and what it has written there.
+use Rattle.std.specs.Prelude.{IfSome, None, Option, Some}
+use Rattle.std.proofs.Common.{◌≡◌, List, refl, ℕ}
 use Rattle.std.specs.Io.KnownBytes.{Appends}
 use Rattle.gf_shape.specs.declared.any_shape.AnyShape.{AnyShape}
 use Rattle.gf_shape.specs.declared.colour.Rgb.{Rgb}
@@ -9,11 +9,7 @@ use Rattle.gf_shape.specs.FigureMeaning.{outline_holds}
 use Rattle.gf_shape.specs.ShapeMeaning.{any_holds}
 use Rattle.gf_figures.specs.DrawingColour.{drawing_colour}
 use Rattle.gf_figures.specs.DrawingState.{DrawingState}
-use Rattle.gf_streams.specs.Counts.{Rises}
 use Rattle.gf_streams.specs.Taken.{AppendsPrefix}
-use Rattle.gf_streams.specs.declared.sink.Sink.{Ghosts as Sink}
-use Rattle.gf_streams.specs.declared.write_error.WriteError.{WriteError}
-use Rattle.gf_streams.specs.declared.write_error.WriteError.TheVariants as write
 use Rattle.gf_fig_read.specs.FigGrammar.{Reads}
 use Rattle.gf_fig_read.specs.Objects.{Drawn}
 use Rattle.gf_fit.specs.FittedWindow.{held}
@@ -24,13 +20,11 @@ use Rattle.gf_studio.specs.declared.painting.Extent.{Extent}
 use Rattle.gf_studio.specs.declared.painting.Extent.TheVariants as extent
 use Rattle.gf_studio.specs.declared.painting.Format.{Format}
 use Rattle.gf_studio.specs.declared.painting.Format.TheVariants as format
-use Rattle.gf_studio.specs.declared.studio_error.StudioError.{StudioError}
 use Rattle.gf_studio.specs.FigRun.{Draws}
 use Rattle.gf_studio.specs.PaintRun.{IsMeant, WritesPicture}
 use Rattle.gf_studio.specs.PictureParts.{IsWindowOver}
 use Rattle.gf_studio.specs.PictureRun.{IsShownBy, IsWindowOf, Paints, PaintsBands}
-use Rattle.gf_studio.specs.Refusals.{of_write}
-use Rattle.gf_studio.specs.RunAnswers.{LeavesPicture, WritesPrefix}
+use Rattle.gf_studio.specs.RunAnswers.{WritesPrefix}
 
 -- a window over a drawing is one of what has this drawing
 pub window_of_lines : (bytes : List ℕ) (d : DrawingState AnyShape) (e : Extent) (w : View)
@@ -91,7 +85,7 @@ module _ (f : Format) (e : Extent) (w : View) (colour : Point → Rgb) (old new 
     written = written;
   }
 
-  prefix : (left : Option (List ℕ)) → IsAsked f e left w colour
+  pub prefix : (left : Option (List ℕ)) → IsAsked f e left w colour
       → AppendsPrefix old new (picture colour w)
       → IfSome left (λ bytes. WritesPrefix (Paints f e bytes) old new)
   prefix None asked written = tt
@@ -105,7 +99,7 @@ module _ (f : Format) (e : Extent) (w : View) (colour : Point → Rgb) (old new 
     written = written;
   }
 
-  bands : (left : Option (List ℕ)) → IsAsked f e left w colour
+  pub bands : (left : Option (List ℕ)) → IsAsked f e left w colour
       → HasBands (header w) colour w old new
       → IfSome left (λ bytes. PaintsBands f e bytes old new)
   bands None asked written = tt
@@ -114,45 +108,3 @@ module _ (f : Format) (e : Extent) (w : View) (colour : Point → Rgb) (old new 
     such = asked.such;
     written = record { colour = colour; shown = asked.shown; written = written };
   }
-
--- where painting it failed, the sink is left as a run that paints it leaves it
-module _ {W T : Type 0} (sink : Sink W) (left : Option (List ℕ)) (f : Format) (e : Extent)
-    (w : View) (colour : Point → Rgb) (old new : W) (asked : IsAsked f e left w colour) where
-  abbrev Leaves : Result T StudioError → Type 0
-  Leaves r = LeavesPicture sink left (Paints f e) old new (PaintsBands f e) r
-
-  left_by : (fault : WriteError)
-      → (fault ≡ write.OutOfMemory → (new ≡ old)
-      ⊎ HasBands (header w) colour w (sink.taken old) (sink.taken new))
-      → (fault ≡ write.WriteFailed
-      → AppendsPrefix (sink.taken old) (sink.taken new) (picture colour w))
-      → (fault ≡ write.WriteFailed → Rises (sink.failures old) (sink.failures new))
-      → Leaves (Err (of_write fault))
-  left_by write.OutOfMemory memory front failed = record {
-    writes = record { flushed = tt; failed = λ is. cc; prefix = λ is. cc };
-    memory = λ is. elim (memory refl) [
-      | inl same ↦ inl same
-      | inr written ↦ inr (bands f e w colour (sink.taken old) (sink.taken new) left asked written)
-    ];
-    unwritten = inr (inr refl);
-  }
-  left_by write.WriteFailed memory front failed = record {
-    writes = record {
-      flushed = tt;
-      failed = λ is. failed refl;
-      prefix = λ is. prefix f e w colour (sink.taken old) (sink.taken new) left asked (front refl);
-    };
-    memory = λ is. cc;
-    unwritten = inr (inl refl);
-  }
-
-  pub painting_left : (r : Result T StudioError) (x : StudioError) (fault : WriteError)
-      → r ≡ Err x → x ≡ of_write fault
-      → (fault ≡ write.OutOfMemory → (new ≡ old)
-      ⊎ HasBands (header w) colour w (sink.taken old) (sink.taken new))
-      → (fault ≡ write.WriteFailed
-      → AppendsPrefix (sink.taken old) (sink.taken new) (picture colour w))
-      → (fault ≡ write.WriteFailed → Rises (sink.failures old) (sink.failures new))
-      → Leaves r
-  painting_left r x fault is from memory front failed =
-      subst Leaves (sym (is ∙ ap Err from)) (left_by fault memory front failed)
