@@ -23,12 +23,12 @@ use Rattle.gf_ops.proofs.DirectConflictLemmas.{direct-sym}
 use Rattle.gf_base.proofs.ListLemmas.{not_Contains-nil}
 use Rattle.gf_ops.proofs.ValidityLemmas.{same_op}
 use Rattle.gf_rivals.specs.declared.log.Setter.{Setter}
-use Rattle.gf_rivals.specs.Aimed.{AimedState, AimsAtOne, AreAimed, AreNumbersOf, ConflictDirectly}
+use Rattle.gf_rivals.specs.Aimed.{AimedState, AimsAtOne, AreAimed, AreKeysOf, ConflictDirectly}
 use Rattle.gf_rivals.specs.Aimed.{ConflictsWithOne, IsConflict, IsRivalOfBrought, op_at}
 use Rattle.gf_rivals.specs.Logs.{position_of}
-use Rattle.gf_rivals.specs.Rivals.{IsDirect, IsNumber, AreLogsOf}
-use Rattle.gf_rivals.proofs.NumberLemmas.{some_one, contained_at, number_from, one_position}
-use Rattle.gf_rivals.proofs.NumberLemmas.{position_is}
+use Rattle.gf_rivals.specs.Rivals.{IsDirect, IsKey, AreLogsOf}
+use Rattle.gf_rivals.proofs.KeyLemmas.{some_one, contained_at, key_from, one_position}
+use Rattle.gf_rivals.proofs.KeyLemmas.{position_is}
 
 -- ---- what makes an object conflicts with nothing
 
@@ -94,21 +94,21 @@ module _ (h : List Op) (o : ObjectId) (ls : List (List Setter)) (logs : AreLogsO
     | inr m ↦ m.contained
   ]
 
-  -- the number of a setter of the object
-  number_at : (x : Op) → Contains h x → (w : Value) (t : List OpId) → x.change ≡ Set o w t
-      → (n : ℕ) × (q : ℕ) × IsNumber ls n q × (slice_get h q ≡ Some x)
-  number_at x c w t e = let p = position_in_history h x c in let k = logs.all p.0 x w t p.1 e in
+  -- the key of a setter of the object
+  key_at : (x : Op) → Contains h x → (w : Value) (t : List OpId) → x.change ≡ Set o w t
+      → (n : ℕ) × (q : ℕ) × IsKey ls n q × (slice_get h q ≡ Some x)
+  key_at x c w t e = let p = position_in_history h x c in let k = logs.all p.0 x w t p.1 e in
       (k.0, p.0, k.1, p.1)
 
-  -- what stands at a number's position is one operation
-  one_op : (n q r : ℕ) (x y : Op) → IsNumber ls n q → IsNumber ls n r → slice_get h q ≡ Some x
+  -- what stands at a key's position is one operation
+  one_op : (n q r : ℕ) (x y : Op) → IsKey ls n q → IsKey ls n r → slice_get h q ≡ Some x
       → slice_get h r ≡ Some y → x ≡ y
   one_op n q r x y k m e f = some_one x y
       (sym e ∙ (ap (slice_get h) (one_position h o ls logs n q r k m) ∙ f))
 
   -- ---- what conflicts with it and its aim; by_aim are those that conflict with its aim
   module _ (own us r : List ℕ) (by_aim : ℕ → Type 0) (own_are : (n : ℕ)
-      → Contains own n ↔ IsDirect h ls a n) (us_are : AreNumbersOf h ls (aim_of a) us)
+      → Contains own n ↔ IsDirect h ls a n) (us_are : AreKeysOf h ls (aim_of a) us)
       (from : (n : ℕ) → by_aim n → ConflictsWithOne h ls us n) (to : (m n : ℕ) → Contains us m
       → ConflictDirectly h ls m n → by_aim n)
       (r_are : (n : ℕ) → Contains r n ↔ (Contains own n ⊎ by_aim n)) where
@@ -122,8 +122,8 @@ module _ (h : List Op) (o : ObjectId) (ls : List (List Setter)) (logs : AreLogsO
             let m = (us_are w.one).0 w.among in
             let x = there_at h (position_of ls w.one) c.first c.at_first in
             let y = there_at h (position_of ls n) c.second c.at_second in
-            let same : m.op ≡ c.first = one_op w.one m.position x.0 m.op c.first m.number
-            (number_from h o ls logs w.one x.0 x.1) m.at x.2 in
+            let same : m.op ≡ c.first = one_op w.one m.position x.0 m.op c.first m.key
+            (key_from h o ls logs w.one x.0 x.1) m.at x.2 in
             record {
               first = c.first;
               brings = inr (record {
@@ -133,7 +133,7 @@ module _ (h : List Op) (o : ObjectId) (ls : List (List Setter)) (logs : AreLogsO
               direct = record {
                 position = y.0;
                 op = c.second;
-                number = number_from h o ls logs n y.0 y.1;
+                key = key_from h o ls logs n y.0 y.1;
                 at = y.2;
                 direct = c.direct;
               };
@@ -144,7 +144,7 @@ module _ (h : List Op) (o : ObjectId) (ls : List (List Setter)) (logs : AreLogsO
             (record {
               position = w.direct.position;
               op = w.direct.op;
-              number = w.direct.number;
+              key = w.direct.key;
               at = w.direct.at;
               direct = subst (λ z. DirectConflict z w.direct.op) e w.direct.direct;
             }))
@@ -154,14 +154,14 @@ module _ (h : List Op) (o : ObjectId) (ls : List (List Setter)) (logs : AreLogsO
             let back = direct-sym w.first d.op d.direct in
             let sets = setter_met h valid d.op w.first m.contained (valid.suited d.op c) (λ s f. c)
             back o (brought_on w.first (inr m)) in
-            let p = number_at w.first m.contained sets.0 sets.1 sets.2 in
+            let p = key_at w.first m.contained sets.0 sets.1 sets.2 in
             let among = (us_are p.0).1
-            (record { position = p.1; op = w.first; number = p.2; at = p.3; among = m.aimed }) in
+            (record { position = p.1; op = w.first; key = p.2; at = p.3; among = m.aimed }) in
             inr (to p.0 n among (record {
               first = w.first;
               second = d.op;
               at_first = ap (op_at h) (position_is h o ls logs p.0 p.1 p.2) ∙ p.3;
-              at_second = ap (op_at h) (position_is h o ls logs n d.position d.number) ∙ d.at;
+              at_second = ap (op_at h) (position_is h o ls logs n d.position d.key) ∙ d.at;
               direct = d.direct;
             }))
       ]),
@@ -188,7 +188,7 @@ module _ (h : List Op) (o : ObjectId) (ls : List (List Setter)) (logs : AreLogsO
     met_conflicts n w = record {
       position = w.direct.position;
       op = w.direct.op;
-      number = w.direct.number;
+      key = w.direct.key;
       at = w.direct.at;
       conflict = record {
         first = w.first;
@@ -206,11 +206,11 @@ module _ (h : List Op) (o : ObjectId) (ls : List (List Setter)) (logs : AreLogsO
         let k = (s.aim m.0).0 m.1 in
         let t = (met m.0).0 m.2 in
         let same : t.direct.op ≡ k.op = one_op m.0 t.direct.position k.position t.direct.op k.op
-        t.direct.number k.number t.direct.at k.at in
+        t.direct.key k.key t.direct.at k.at in
         record {
           position = s.position;
           op = s.op;
-          number = subst (λ z. IsNumber ls z s.position) w.number s.number;
+          key = subst (λ z. IsKey ls z s.position) w.key s.key;
           at = s.at;
           conflict = record {
             first = t.first;
@@ -232,7 +232,7 @@ module _ (h : List Op) (o : ObjectId) (ls : List (List Setter)) (logs : AreLogsO
         direct = record {
           position = c.position;
           op = c.op;
-          number = c.number;
+          key = c.key;
           at = c.at;
           direct = subst (DirectConflict c.conflict.first) e c.conflict.direct;
         };
@@ -245,17 +245,17 @@ module _ (h : List Op) (o : ObjectId) (ls : List (List Setter)) (logs : AreLogsO
           ∙ brought_on x c.conflict.brings_first in
           let sets = setter_met h valid x y m.contained (brought_suited x c.conflict.brings_first)
           (brought_inside x c.conflict.brings_first) c.conflict.direct o on in
-          let p = number_at y m.contained sets.0 sets.1 sets.2 in
-          let state = aimed.all n c.position c.op c.number c.at
+          let p = key_at y m.contained sets.0 sets.1 sets.2 in
+          let state = aimed.all n c.position c.op c.key c.at
           (λ e. not_Contains-nil y.id (subst (λ z. Contains z y.id) e m.aimed)) in
           let s = aimed.each state.state state.listed in
-          let same : c.op ≡ s.op = one_op n c.position s.position c.op s.op c.number
-          (subst (λ z. IsNumber ls z s.position) state.number s.number) c.at s.at in
+          let same : c.op ≡ s.op = one_op n c.position s.position c.op s.op c.key
+          (subst (λ z. IsKey ls z s.position) state.key s.key) c.at s.at in
           let aims = (s.aim p.0).1
           (record {
             position = p.1;
             op = y;
-            number = p.2;
+            key = p.2;
             at = p.3;
             among = subst (λ (z : Op). Contains (aim_of z) y.id) same m.aimed;
           }) in
@@ -265,7 +265,7 @@ module _ (h : List Op) (o : ObjectId) (ls : List (List Setter)) (logs : AreLogsO
             direct = record {
               position = p.1;
               op = y;
-              number = p.2;
+              key = p.2;
               at = p.3;
               direct = c.conflict.direct;
             };
@@ -273,7 +273,7 @@ module _ (h : List Op) (o : ObjectId) (ls : List (List Setter)) (logs : AreLogsO
           inr (record {
             state = state.state;
             listed = state.listed;
-            number = state.number;
+            key = state.key;
             met = intersects_from state.state.aim r p.0 aims hit;
           })
     ]
@@ -288,11 +288,11 @@ module _ (h : List Op) (o : ObjectId) (ls : List (List Setter)) (logs : AreLogsO
     )
 
 -- what conflicts are two setters
-pub conflict_numbers : (h : List Op) (o : ObjectId) (ls : List (List Setter)) → AreLogsOf h o ls
+pub conflict_keys : (h : List Op) (o : ObjectId) (ls : List (List Setter)) → AreLogsOf h o ls
     → (m n : ℕ) → (c : ConflictDirectly h ls m n) →
-    (p : ℕ) × (q : ℕ) × IsNumber ls m p × IsNumber ls n q × (slice_get h p ≡ Some c.first)
+    (p : ℕ) × (q : ℕ) × IsKey ls m p × IsKey ls n q × (slice_get h p ≡ Some c.first)
     × (slice_get h q ≡ Some c.second)
-conflict_numbers h o ls logs m n c =
+conflict_keys h o ls logs m n c =
     let x = there_at h (position_of ls m) c.first c.at_first in
     let y = there_at h (position_of ls n) c.second c.at_second in
-    (x.0, y.0, number_from h o ls logs m x.0 x.1, number_from h o ls logs n y.0 y.1, x.2, y.2)
+    (x.0, y.0, key_from h o ls logs m x.0 x.1, key_from h o ls logs n y.0 y.1, x.2, y.2)

@@ -1,4 +1,4 @@
--- The numbers of an aim, the operations that aim at some numbers, and what conflicts with a member,
+-- The keys of an aim, the operations that aim at some keys, and what conflicts with a member,
 -- found one by one.
 use Rattle.std.proofs.Common.{◌≡◌, ℕ, ◌<◌, ◌≤◌, ◌+◌, true, List, [], ◌∷◌, ◌++◌, take, length}
 use Rattle.std.proofs.Common.{get_or, inl, inr, subst, sym, ap, ◌∙◌, arith}
@@ -11,12 +11,12 @@ use Rattle.gf_maximal.specs.Growing.{intersects}
 use Rattle.gf_ops.specs.declared.op.Op.{Op}
 use Rattle.gf_ops.specs.declared.op.OpId.{OpId}
 use Rattle.gf_rivals.specs.declared.log.Setter.{Setter}
-use Rattle.gf_rivals.specs.Aimed.{AimedState, AimsAtOne, AreNumbersOf, ConflictDirectly}
+use Rattle.gf_rivals.specs.Aimed.{AimedState, AimsAtOne, AreKeysOf, ConflictDirectly}
 use Rattle.gf_rivals.specs.Aimed.{ConflictsWithOne}
 use Rattle.gf_rivals.specs.Comparing.{AddsIf}
 use Rattle.gf_rivals.specs.Naming.{AddsNamed}
 
--- ---- the operations that aim at some numbers
+-- ---- the operations that aim at some keys
 
 module _ (us : List ℕ) where
   one_more : (es fs : List AimedState) (n : ℕ) → ((e : AimedState) → Contains es e → Contains fs e)
@@ -24,14 +24,14 @@ module _ (us : List ℕ) where
   one_more es fs n f a = record {
     state = a.state;
     listed = f a.state a.listed;
-    number = a.number;
+    key = a.key;
     met = a.met;
   }
 
   pub aimed_more : (es : List AimedState) (old new : List ℕ) (i : ℕ) (d : AimedState)
       → i < length es →
       ((n : ℕ) → Contains old n ↔ (Contains us n ⊎ AimsAtOne (take i es) us n))
-      → AddsIf (intersects (get_or es i d).aim us ≡ true) (get_or es i d).number old new →
+      → AddsIf (intersects (get_or es i d).aim us ≡ true) (get_or es i d).key old new →
       (n : ℕ) → Contains new n ↔ (Contains us n ⊎ AimsAtOne (take (i + 1) es) us n)
   aimed_more es old new i d l f g n =
       let e = get_or es i d in
@@ -47,7 +47,7 @@ module _ (us : List ℕ) where
           | inr k ↦ inr (record {
             state = e;
             listed = put e (Contains-push (take i es) e);
-            number = sym k.1;
+            key = sym k.1;
             met = k.0;
           })
         ],
@@ -56,10 +56,10 @@ module _ (us : List ℕ) where
           | inr a ↦ elim (Contains-push_cases (take i es) e a.state
               (subst (λ z. Contains z a.state) more a.listed)) [
                 | inl c ↦ inl ((f n).1 (inr
-                    (record { state = a.state; listed = c; number = a.number; met = a.met })))
+                    (record { state = a.state; listed = c; key = a.key; met = a.met })))
                 | inr s ↦ inr (
                   subst (λ (z : AimedState). intersects z.aim us ≡ true) (sym s) a.met,
-                  sym a.number ∙ ap (λ (z : AimedState). z.number) (sym s),
+                  sym a.key ∙ ap (λ (z : AimedState). z.key) (sym s),
                 )
               ]
         ]),
@@ -71,13 +71,13 @@ module _ (us : List ℕ) where
   aimed_all es g i l f = subst (λ z. (n : ℕ) → Contains g n ↔ (Contains us n ⊎ AimsAtOne z us n))
       (take_all i es l) f
 
--- ---- the numbers of an aim
+-- ---- the keys of an aim
 
 module _ (h : List Op) (ls : List (List Setter)) where
-  pub numbers_more : (ids : List OpId) (old new : List ℕ) (i : ℕ) (d : OpId) → i < length ids
-      → AreNumbersOf h ls (take i ids) old → AddsNamed h ls (get_or ids i d) old new
-      → AreNumbersOf h ls (take (i + 1) ids) new
-  numbers_more ids old new i d l f g m =
+  pub keys_more : (ids : List OpId) (old new : List ℕ) (i : ℕ) (d : OpId) → i < length ids
+      → AreKeysOf h ls (take i ids) old → AddsNamed h ls (get_or ids i d) old new
+      → AreKeysOf h ls (take (i + 1) ids) new
+  keys_more ids old new i d l f g m =
       let x = get_or ids i d in
       let more = take_more ids i d l in (
         λ j. elim ((g m).0 j) [
@@ -86,7 +86,7 @@ module _ (h : List Op) (ls : List (List Setter)) where
               record {
                 position = a.position;
                 op = a.op;
-                number = a.number;
+                key = a.key;
                 at = a.at;
                 among = subst (λ z. Contains z a.op.id) (sym more)
                     (Contains-append_left (take i ids) (x ∷ []) a.op.id a.among);
@@ -94,7 +94,7 @@ module _ (h : List Op) (ls : List (List Setter)) where
           | inr a ↦ record {
             position = a.position;
             op = a.op;
-            number = a.number;
+            key = a.key;
             at = a.at;
             among = subst (λ z. Contains z a.op.id) (sym more)
                 (subst (Contains (take i ids ++ x ∷ [])) (sym a.named)
@@ -107,23 +107,23 @@ module _ (h : List Op) (ls : List (List Setter)) where
                   inl ((f m).1 (record {
                     position = a.position;
                     op = a.op;
-                    number = a.number;
+                    key = a.key;
                     at = a.at;
                     among = c;
                   }))
               | inr e ↦ inr (record {
                 position = a.position;
                 op = a.op;
-                number = a.number;
+                key = a.key;
                 at = a.at;
                 named = sym e;
               })
             ]),
       )
 
-  pub numbers_all : (ids : List OpId) (g : List ℕ) (i : ℕ) → length ids ≤ i
-      → AreNumbersOf h ls (take i ids) g → AreNumbersOf h ls ids g
-  numbers_all ids g i l f = subst (λ z. AreNumbersOf h ls z g) (take_all i ids l) f
+  pub keys_all : (ids : List OpId) (g : List ℕ) (i : ℕ) → length ids ≤ i
+      → AreKeysOf h ls (take i ids) g → AreKeysOf h ls ids g
+  keys_all ids g i l f = subst (λ z. AreKeysOf h ls z g) (take_all i ids l) f
 
   -- ---- what conflicts with a member
 

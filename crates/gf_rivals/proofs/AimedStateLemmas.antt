@@ -15,17 +15,17 @@ use Rattle.gf_ops.specs.Limits.{IsInRange}
 use Rattle.gf_ops.specs.ValidHistory.{IsValid}
 use Rattle.gf_base.proofs.ListLemmas.{not_Contains-nil}
 use Rattle.gf_rivals.specs.declared.log.Setter.{Setter}
-use Rattle.gf_rivals.specs.Aimed.{AimedState, AreAimed, AreNumbersOf, IsAimedState, IsAmong}
+use Rattle.gf_rivals.specs.Aimed.{AimedState, AreAimed, AreKeysOf, IsAimedState, IsAmong}
 use Rattle.gf_rivals.specs.Logs.{log_of, setters, with_setter}
-use Rattle.gf_rivals.specs.Rivals.{IsNumber, AreLogsOf}
-use Rattle.gf_rivals.proofs.SetterIndexLemmas.{log_number}
+use Rattle.gf_rivals.specs.Rivals.{IsKey, AreLogsOf}
+use Rattle.gf_rivals.proofs.SetterIndexLemmas.{log_key}
 use Rattle.gf_rivals.proofs.LongerLemmas.{get_front, get_within, get_last}
 use Rattle.gf_rivals.proofs.NextLemmas.{fresh}
-use Rattle.gf_rivals.proofs.NumberLemmas.{some_one, contained_at, number_within}
-use Rattle.gf_rivals.proofs.LogLemmas.{last_number, number_cases, numbered}
+use Rattle.gf_rivals.proofs.KeyLemmas.{some_one, contained_at, key_within}
+use Rattle.gf_rivals.proofs.LogLemmas.{last_key, key_cases, numbered}
 
 -- no operation aims at any
-pub none_aimed : (h : List Op) (ls : List (List Setter)) → ((n q : ℕ) → ¬ (IsNumber ls n q))
+pub none_aimed : (h : List Op) (ls : List (List Setter)) → ((n q : ℕ) → ¬ (IsKey ls n q))
     → AreAimed h ls []
 none_aimed h ls f = record {
   each = λ e i. absurd (not_Contains-nil e i);
@@ -37,16 +37,16 @@ module _ (h : List Op) (o : ObjectId) (ls : List (List Setter)) (logs : AreLogsO
   abbrev longer : List Op
   longer = h ++ a ∷ []
 
-  -- what stands at a number's position stood there
-  stood : (n q : ℕ) (b : Op) → IsNumber ls n q → slice_get longer q ≡ Some b
+  -- what stands at a key's position stood there
+  stood : (n q : ℕ) (b : Op) → IsKey ls n q → slice_get longer q ≡ Some b
       → slice_get h q ≡ Some b
-  stood n q b k at = sym (get_within h a q (number_within h o ls logs n q k)) ∙ at
+  stood n q b k at = sym (get_within h a q (key_within h o ls logs n q k)) ∙ at
 
   still_among : (ids : List OpId) (m : ℕ) → IsAmong h ls ids m → IsAmong longer ls ids m
   still_among ids m k = record {
     position = k.position;
     op = k.op;
-    number = k.number;
+    key = k.key;
     at = get_front h a k.position k.op k.at;
     among = k.among;
   }
@@ -55,8 +55,8 @@ module _ (h : List Op) (o : ObjectId) (ls : List (List Setter)) (logs : AreLogsO
   was_among ids m k = record {
     position = k.position;
     op = k.op;
-    number = k.number;
-    at = stood m k.position k.op k.number k.at;
+    key = k.key;
+    at = stood m k.position k.op k.key k.at;
     among = k.among;
   }
 
@@ -66,7 +66,7 @@ module _ (h : List Op) (o : ObjectId) (ls : List (List Setter)) (logs : AreLogsO
     each = λ e i. let s = aimed.each e i in record {
       position = s.position;
       op = s.op;
-      number = s.number;
+      key = s.key;
       at = get_front h a s.position s.op s.at;
       aim = λ m. (
         λ c. still_among (aim_of s.op) m ((s.aim m).0 c),
@@ -83,7 +83,7 @@ module _ (h : List Op) (o : ObjectId) (ls : List (List Setter)) (logs : AreLogsO
         (record { seq = a.id.seq; position = length h })
 
     abbrev x : ℕ
-    x = log_number (log_of (attribute_of v) (a.id.site - 1))
+    x = log_key (log_of (attribute_of v) (a.id.site - 1))
         (length (setters ls (attribute_of v) (a.id.site - 1)))
 
     -- nobody that the history has, and a itself, aims at a
@@ -99,19 +99,19 @@ module _ (h : List Op) (o : ObjectId) (ls : List (List Setter)) (logs : AreLogsO
     more_among ids m k = record {
       position = k.position;
       op = k.op;
-      number = numbered h o ls logs a valid in_range accepted v change m k.position k.number;
+      key = numbered h o ls logs a valid in_range accepted v change m k.position k.key;
       at = get_front h a k.position k.op k.at;
       among = k.among;
     }
 
     less_among : (b : Op) → Contains h b ⊎ (b ≡ a) → (m : ℕ) → IsAmong longer new (aim_of b) m
         → IsAmong h ls (aim_of b) m
-    less_among b w m k = elim (number_cases h o ls logs a valid in_range accepted v change m
-        k.position k.number) [
+    less_among b w m k = elim (key_cases h o ls logs a valid in_range accepted v change m
+        k.position k.key) [
           | inl old ↦ record {
             position = k.position;
             op = k.op;
-            number = old;
+            key = old;
             at = stood m k.position k.op old k.at;
             among = k.among;
           }
@@ -121,9 +121,9 @@ module _ (h : List Op) (o : ObjectId) (ls : List (List Setter)) (logs : AreLogsO
               absurd (none_at b w (subst (λ (z : Op). Contains (aim_of b) z.id) one k.among))
         ]
 
-    numbers_longer : (b : Op) → Contains h b ⊎ (b ≡ a) → (us : List ℕ)
-        → AreNumbersOf h ls (aim_of b) us → AreNumbersOf longer new (aim_of b) us
-    numbers_longer b w us f m = (
+    keys_longer : (b : Op) → Contains h b ⊎ (b ≡ a) → (us : List ℕ)
+        → AreKeysOf h ls (aim_of b) us → AreKeysOf longer new (aim_of b) us
+    keys_longer b w us f m = (
       λ c. more_among (aim_of b) m ((f m).0 c),
       λ k. (f m).1 (less_among b w m k),
     )
@@ -132,10 +132,10 @@ module _ (h : List Op) (o : ObjectId) (ls : List (List Setter)) (logs : AreLogsO
     state_longer e s = record {
       position = s.position;
       op = s.op;
-      number = numbered h o ls logs a valid in_range accepted v change e.number s.position
-          s.number;
+      key = numbered h o ls logs a valid in_range accepted v change e.key s.position
+          s.key;
       at = get_front h a s.position s.op s.at;
-      aim = numbers_longer s.op (inl (contained_at h s.position s.op s.at)) e.aim s.aim;
+      aim = keys_longer s.op (inl (contained_at h s.position s.op s.at)) e.aim s.aim;
     }
 
     -- one more setter that aims at none
@@ -143,7 +143,7 @@ module _ (h : List Op) (o : ObjectId) (ls : List (List Setter)) (logs : AreLogsO
         → AreAimed longer new es
     aimed_none es aimed none = record {
       each = λ e i. state_longer e (aimed.each e i);
-      all = λ n q b k at some. elim (number_cases h o ls logs a valid in_range accepted v change n
+      all = λ n q b k at some. elim (key_cases h o ls logs a valid in_range accepted v change n
           q k) [
             | inl old ↦ aimed.all n q b old (stood n q b old at) some
             | inr e ↦
@@ -153,33 +153,33 @@ module _ (h : List Op) (o : ObjectId) (ls : List (List Setter)) (logs : AreLogsO
           ];
     }
 
-    -- ONE MORE SETTER that aims at the numbers us
+    -- ONE MORE SETTER that aims at the keys us
     pub aimed_more : (es : List AimedState) (us : List ℕ) → AreAimed h ls es
-        → AreNumbersOf h ls (aim_of a) us
-        → AreAimed longer new (es ++ record { number = x; aim = us } ∷ [])
+        → AreKeysOf h ls (aim_of a) us
+        → AreAimed longer new (es ++ record { key = x; aim = us } ∷ [])
     aimed_more es us aimed are = record {
       each = λ e i. elim (Contains-push_cases es last e i) [
         | inl j ↦ state_longer e (aimed.each e j)
         | inr d ↦ subst (IsAimedState longer new) d (record {
           position = length h;
           op = a;
-          number = last_number h o ls logs a valid in_range accepted v change;
+          key = last_key h o ls logs a valid in_range accepted v change;
           at = get_last h a;
-          aim = numbers_longer a (inr refl) us are;
+          aim = keys_longer a (inr refl) us are;
         })
       ];
-      all = λ n q b k at some. elim (number_cases h o ls logs a valid in_range accepted v change n
+      all = λ n q b k at some. elim (key_cases h o ls logs a valid in_range accepted v change n
           q k) [
             | inl old ↦
                 let s = aimed.all n q b old (stood n q b old at) some in
                 record {
                   state = s.state;
                   listed = Contains-append_left es (last ∷ []) s.state s.listed;
-                  number = s.number;
+                  key = s.key;
                 }
-            | inr e ↦ record { state = last; listed = Contains-push es last; number = sym e.0 }
+            | inr e ↦ record { state = last; listed = Contains-push es last; key = sym e.0 }
           ];
     }
       where
         last : AimedState
-        last = record { number = x; aim = us }
+        last = record { key = x; aim = us }

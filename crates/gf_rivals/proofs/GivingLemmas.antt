@@ -1,4 +1,4 @@
--- Some numbers for which a fact holds, gathered one by one.
+-- Some keys for which a fact holds, gathered one by one.
 use Rattle.std.proofs.Common.{◌≡◌, ℕ, ◌<◌, ◌≤◌, ◌+◌, List, [], ◌∷◌, ◌++◌, take, length, get_or, inl}
 use Rattle.std.proofs.Common.{inr, subst, sym}
 use Rattle.std.specs.Prelude.{◌↔◌, Contains}

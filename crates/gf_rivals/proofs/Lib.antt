@@ -1,7 +1,7 @@
 pub mod NextLemmas
 pub mod SetterIndexLemmas
 pub mod SetterLemmas
-pub mod NumberLemmas
+pub mod KeyLemmas
 pub mod RivalLemmas
 pub mod LongerLemmas
 pub mod LogLemmas

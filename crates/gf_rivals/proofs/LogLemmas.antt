@@ -23,19 +23,19 @@ use Rattle.gf_ops.specs.Attribute.{attribute_index}
 use Rattle.gf_ops.proofs.AttributeLemmas.{attribute_index_below, one_attribute}
 use Rattle.gf_rivals.specs.Logs.{log_of, setters, no_logs, with_log}
 use Rattle.gf_rivals.specs.Logs.{with_setter}
-use Rattle.gf_rivals.specs.Rivals.{IsSetter, IsNumber, AreLogsOf}
+use Rattle.gf_rivals.specs.Rivals.{IsSetter, IsKey, AreLogsOf}
 use Rattle.gf_rivals.specs.declared.fingerprint.Fingerprint.{Fingerprint}
 use Rattle.gf_rivals.specs.Fingerprints.{fingerprint_of}
 use Rattle.gf_rivals.specs.Giving.{op_value, value_set, fingerprint_given}
-use Rattle.gf_rivals.specs.Indexes.{HasFingerprint, IsIndex, PutsNumber}
-use Rattle.gf_rivals.proofs.IndexLemmas.{Contains-numbers_at}
+use Rattle.gf_rivals.specs.Indexes.{HasFingerprint, IsIndex, PutsKey}
+use Rattle.gf_rivals.proofs.IndexLemmas.{Contains-keys_at}
 use Rattle.gf_rivals.proofs.LongerLemmas.{get_front, get_within, get_last, get_cases, set_here}
 use Rattle.gf_rivals.proofs.LongerLemmas.{set_else, set_back}
 use Rattle.gf_rivals.proofs.NextLemmas.{earlier}
-use Rattle.gf_rivals.proofs.NumberLemmas.{some_one}
-use Rattle.gf_rivals.proofs.NumberLemmas.{contained_at}
-use Rattle.gf_rivals.proofs.NumberLemmas.{number_within}
-use Rattle.gf_rivals.proofs.SetterIndexLemmas.{log_number}
+use Rattle.gf_rivals.proofs.KeyLemmas.{some_one}
+use Rattle.gf_rivals.proofs.KeyLemmas.{contained_at}
+use Rattle.gf_rivals.proofs.KeyLemmas.{key_within}
+use Rattle.gf_rivals.proofs.SetterIndexLemmas.{log_key}
 use Rattle.gf_rivals.proofs.SetterLemmas.{setters_push, at_index}
 use Rattle.gf_rivals.specs.declared.logs.TheConstants.{LOGS}
 
@@ -113,25 +113,25 @@ module _ (h : List Op) (o : ObjectId) (ls : List (List Setter)) (logs : AreLogsO
   given_still : (p : Fingerprint) (n : ℕ) → HasFingerprint h ls p n → HasFingerprint longer ls p n
   given_still p n f = record {
     position = f.position;
-    number = f.number;
+    key = f.key;
     given = ap (λ r. fingerprint_given (op_value r))
-        (get_within h a f.position (number_within h o ls logs n f.position f.number)) ∙ f.given;
+        (get_within h a f.position (key_within h o ls logs n f.position f.key)) ∙ f.given;
   }
 
-  given_back : (p : Fingerprint) (n q : ℕ) → IsNumber ls n q
+  given_back : (p : Fingerprint) (n q : ℕ) → IsKey ls n q
       → fingerprint_given (op_value (slice_get longer q)) ≡ Some p → HasFingerprint h ls p n
   given_back p n q k g = record {
     position = q;
-    number = k;
+    key = k;
     given = ap (λ r. fingerprint_given (op_value r))
-        (sym (get_within h a q (number_within h o ls logs n q k))) ∙ g;
+        (sym (get_within h a q (key_within h o ls logs n q k))) ∙ g;
   }
 
   -- an index of the logs is one in the longer history too
   pub index_other : (ix : List (Fingerprint × List ℕ)) → IsIndex h ls ix → IsIndex longer ls ix
   index_other ix index p n = (
     λ i. given_still p n ((index p n).0 i),
-    λ f. (index p n).1 (given_back p n f.position f.number f.given),
+    λ f. (index p n).1 (given_back p n f.position f.key f.given),
   )
 
   module _ (valid : IsValid h) (in_range : IsInRange a) (accepted : IsAccepted h a) (v : Value)
@@ -151,10 +151,10 @@ module _ (h : List Op) (o : ObjectId) (ls : List (List Setter)) (logs : AreLogsO
     site : a.id.site ≡ s + 1
     site = let l = own_site in omega (arith, l.0)
 
-    pub first_number : 0 < a.id.seq
-    first_number = let l = (seq_in_range a in_range).0 in omega (arith, l)
+    pub first_key : 0 < a.id.seq
+    first_key = let l = (seq_in_range a in_range).0 in omega (arith, l)
 
-    -- the setters of its site have smaller numbers
+    -- the setters of its site have smaller keys
     pub behind_all : (i : ℕ) (d : Setter) → i < length (setters ls t s)
         → (get_or (setters ls t s) i d).seq < a.id.seq
     behind_all i d l =
@@ -238,7 +238,7 @@ module _ (h : List Op) (o : ObjectId) (ls : List (List Setter)) (logs : AreLogsO
       | inr w ↦ still u r e (logs.each u r p e l (ap (λ z. slice_get z p) (sym w) ∙ i))
     ]
 
-    pub numbered : (n q : ℕ) → IsNumber ls n q → IsNumber new n q
+    pub numbered : (n q : ℕ) → IsKey ls n q → IsKey new n q
     numbered n q k = record {
       attribute = k.attribute;
       site = k.site;
@@ -246,21 +246,21 @@ module _ (h : List Op) (o : ObjectId) (ls : List (List Setter)) (logs : AreLogsO
       index = k.index;
       setter = k.setter;
       at = kept k.attribute k.site k.index k.setter k.within k.at;
-      number = k.number;
+      key = k.key;
       position = k.position;
     }
 
-    -- the number of the new setter
-    pub last_number : IsNumber new (log_number (log_of t s) (length (setters ls t s)))
+    -- the key of the new setter
+    pub last_key : IsKey new (log_key (log_of t s) (length (setters ls t s)))
         (length h)
-    last_number = record {
+    last_key = record {
       attribute = t;
       site = s;
       within = within;
       index = length (setters ls t s);
       setter = last;
       at = ap (λ z. slice_get z (length (setters ls t s))) own ∙ get_last (setters ls t s) last;
-      number = refl;
+      key = refl;
       position = refl;
     }
 
@@ -269,7 +269,7 @@ module _ (h : List Op) (o : ObjectId) (ls : List (List Setter)) (logs : AreLogsO
       | inl w ↦
           let k = (seq_in_range a in_range).1 in
           let here : AreSetters (setters new t s) = setters_push (setters ls t s) (setters new t s)
-          last own (logs.ordered t s within) behind_all first_number (omega (arith, k)) in
+          last own (logs.ordered t s within) behind_all first_key (omega (arith, k)) in
           subst (λ z. AreSetters (setters new z r)) (sym w.0)
           (subst (λ z. AreSetters (setters new t z)) (sym w.1) here)
       | inr w ↦ subst AreSetters (sym w) (logs.ordered u r l)
@@ -282,9 +282,9 @@ module _ (h : List Op) (o : ObjectId) (ls : List (List Setter)) (logs : AreLogsO
       all = λ q b w m g c. elim (get_cases h a q b g) [
         | inl i ↦ let k = logs.all q b w m i c in (k.0, numbered k.0 q k.1)
         | inr z ↦ (
-          log_number (log_of t s) (length (setters ls t s)),
-          subst (IsNumber new (log_number (log_of t s) (length (setters ls t s)))) (sym z.0)
-              last_number,
+          log_key (log_of t s) (length (setters ls t s)),
+          subst (IsKey new (log_key (log_of t s) (length (setters ls t s)))) (sym z.0)
+              last_key,
         )
       ];
       ordered = ordered_new;
@@ -292,18 +292,18 @@ module _ (h : List Op) (o : ObjectId) (ls : List (List Setter)) (logs : AreLogsO
     }
 
     abbrev x : ℕ
-    x = log_number (log_of t s) (length (setters ls t s))
+    x = log_key (log_of t s) (length (setters ls t s))
 
-    -- a number is an old one or the new one
-    pub number_cases : (n q : ℕ) → IsNumber new n q → IsNumber ls n q ⊎ ((n ≡ x) × (q ≡ length h))
-    number_cases n q k = elim (same_log k.attribute k.site k.within) [
+    -- a key is an old one or the new one
+    pub key_cases : (n q : ℕ) → IsKey new n q → IsKey ls n q ⊎ ((n ≡ x) × (q ≡ length h))
+    key_cases n q k = elim (same_log k.attribute k.site k.within) [
       | inl w ↦
           let here : slice_get (setters new t s) k.index ≡ Some k.setter = subst
           (λ z. slice_get (setters new z s) k.index ≡ Some k.setter) w.0
           (subst (λ z. slice_get (setters new k.attribute z) k.index ≡ Some k.setter) w.1 k.at) in
-          let number : n ≡ log_number (log_of t s) k.index = subst
-          (λ z. n ≡ log_number (log_of z s) k.index) w.0
-          (subst (λ z. n ≡ log_number (log_of k.attribute z) k.index) w.1 k.number) in
+          let key : n ≡ log_key (log_of t s) k.index = subst
+          (λ z. n ≡ log_key (log_of z s) k.index) w.0
+          (subst (λ z. n ≡ log_key (log_of k.attribute z) k.index) w.1 k.key) in
           elim (get_cases (setters ls t s) last k.index k.setter
           (ap (λ z. slice_get z k.index) (sym own) ∙ here)) [
             | inl old ↦ inl (record {
@@ -313,11 +313,11 @@ module _ (h : List Op) (o : ObjectId) (ls : List (List Setter)) (logs : AreLogsO
               index = k.index;
               setter = k.setter;
               at = old;
-              number = number;
+              key = key;
               position = k.position;
             })
             | inr z ↦ inr (
-              number ∙ ap (log_number (log_of t s)) z.0,
+              key ∙ ap (log_key (log_of t s)) z.0,
               sym k.position ∙ ap (λ (y : Setter). y.position) (sym z.1),
             )
           ]
@@ -328,32 +328,32 @@ module _ (h : List Op) (o : ObjectId) (ls : List (List Setter)) (logs : AreLogsO
         index = k.index;
         setter = k.setter;
         at = ap (λ z. slice_get z k.index) (sym w) ∙ k.at;
-        number = k.number;
+        key = k.key;
         position = k.position;
       })
     ]
 
     -- the index with the new setter
     pub index_setter : (ix new_ix : List (Fingerprint × List ℕ)) → IsIndex h ls ix
-        → PutsNumber ix (fingerprint_of v) x new_ix → IsIndex longer new new_ix
+        → PutsKey ix (fingerprint_of v) x new_ix → IsIndex longer new new_ix
     index_setter ix new_ix index puts p n =
-        let w = Contains-numbers_at ix new_ix (fingerprint_of v) x puts p n in
+        let w = Contains-keys_at ix new_ix (fingerprint_of v) x puts p n in
         let own : fingerprint_given (op_value (slice_get longer (length h))) ≡ Some
         (fingerprint_of v) = ap (λ r. fingerprint_given (op_value r)) (get_last h a)
         ∙ ap (λ c. fingerprint_given (value_set c)) change in (
           λ i. elim (w.0 i) [
             | inl j ↦ let f = given_still p n ((index p n).0 j) in record {
               position = f.position;
-              number = numbered n f.position f.number;
+              key = numbered n f.position f.key;
               given = f.given;
             }
             | inr j ↦ record {
               position = length h;
-              number = subst (λ z. IsNumber new z (length h)) (sym j.1) last_number;
+              key = subst (λ z. IsKey new z (length h)) (sym j.1) last_key;
               given = own ∙ ap Some j.0;
             }
           ],
-          λ f. w.1 (elim (number_cases n f.position f.number) [
+          λ f. w.1 (elim (key_cases n f.position f.key) [
             | inl old ↦ inl ((index p n).1 (given_back p n f.position old f.given))
             | inr z ↦ inr (
               some_one (fingerprint_of v) p

@@ -35,28 +35,28 @@ use Rattle.gf_rivals.specs.declared.log.Setter.{Setter}
 use Rattle.gf_rivals.specs.declared.members.Member.{Member}
 use Rattle.gf_rivals.specs.Aimed.{ConflictDirectly, ConflictsWithOne, op_at, op_of}
 use Rattle.gf_rivals.specs.Logs.{log_of, position_of, setters}
-use Rattle.gf_rivals.specs.Comparing.{is_value, number_gives, value_at}
+use Rattle.gf_rivals.specs.Comparing.{is_value, key_gives, value_at}
 use Rattle.gf_rivals.specs.Giving.{op_value, value_set}
 use Rattle.gf_rivals.specs.Members.{AreFalling, AreMembers, AreMembersOf, CanConflict}
 use Rattle.gf_rivals.specs.Members.{IsFirstUnknown}
 use Rattle.gf_rivals.specs.Members.{PointsToOther, IsOfLog, IsOther, OneLog, value_of}
-use Rattle.gf_rivals.specs.Rivals.{IsNumber, AreLogsOf}
+use Rattle.gf_rivals.specs.Rivals.{IsKey, AreLogsOf}
 use Rattle.gf_rivals.specs.SetterIndexes.{setter_of}
 use Rattle.gf_rivals.specs.declared.setter_index.SetterIndex.{SetterIndex}
 use Rattle.gf_rivals.specs.Setters.{IsCountUpTo}
-use Rattle.gf_rivals.proofs.AimRivalLemmas.{conflict_numbers}
-use Rattle.gf_rivals.proofs.NumberLemmas.{some_one, contained_at, got_at, index_short, position_is}
+use Rattle.gf_rivals.proofs.AimRivalLemmas.{conflict_keys}
+use Rattle.gf_rivals.proofs.KeyLemmas.{some_one, contained_at, got_at, index_short, position_is}
 use Rattle.gf_ops.proofs.AttributeLemmas.{one_attribute}
 use Rattle.gf_rivals.proofs.RivalLemmas.{given_is, own_value}
-use Rattle.gf_rivals.proofs.SetterIndexLemmas.{log_number, setter_of-log_number}
+use Rattle.gf_rivals.proofs.SetterIndexLemmas.{log_key, setter_of-log_key}
 
--- a number of the log of t and the site s + 1
+-- a key of the log of t and the site s + 1
 pub record Stands (h : List Op) (o : ObjectId) (ls : List (List Setter)) (t : Attr) (s n : ℕ) : Type
     0 where
   pub index : ℕ
   pub setter : Setter
   pub at : slice_get (setters ls t s) index ≡ Some setter
-  pub number : n ≡ log_number (log_of t s) index
+  pub key : n ≡ log_key (log_of t s) index
   pub op : Op
   pub stands : slice_get h setter.position ≡ Some op
   pub found : op_of h ls n ≡ Some op
@@ -70,7 +70,7 @@ pub record Stands (h : List Op) (o : ObjectId) (ls : List (List Setter)) (t : At
 
 module _ (h : List Op) (o : ObjectId) (ls : List (List Setter)) (logs : AreLogsOf h o ls) where
   -- a setter stands in its log
-  pub stands : (n q : ℕ) → (k : IsNumber ls n q) → Stands h o ls k.attribute k.site n
+  pub stands : (n q : ℕ) → (k : IsKey ls n q) → Stands h o ls k.attribute k.site n
   stands n q k =
       let is = logs.each k.attribute k.site k.index k.setter k.within k.at in
       let here : slice_get h q ≡ Some is.op = subst (λ z. slice_get h z ≡ Some is.op) k.position
@@ -81,7 +81,7 @@ module _ (h : List Op) (o : ObjectId) (ls : List (List Setter)) (logs : AreLogsO
         index = k.index;
         setter = k.setter;
         at = k.at;
-        number = k.number;
+        key = k.key;
         op = is.op;
         stands = is.at;
         found = found;
@@ -94,12 +94,12 @@ module _ (h : List Op) (o : ObjectId) (ls : List (List Setter)) (logs : AreLogsO
         gives = ap op_value found ∙ ap value_set is.change;
       }
 
-  -- and the number determines that log
-  pub in_log : (n q : ℕ) → (k : IsNumber ls n q) → (t : Attr) (s : ℕ) → s < 8
+  -- and the key determines that log
+  pub in_log : (n q : ℕ) → (k : IsKey ls n q) → (t : Attr) (s : ℕ) → s < 8
       → (setter_of n).log ≡ log_of t s → Stands h o ls t s n
   in_log n q k t s l e =
       let p = index_short h o ls logs k.attribute k.site k.index k.setter k.within k.at in
-      let m = k.number in
+      let m = k.key in
       let w = k.within in
       let one : log_of k.attribute k.site ≡ log_of t s = omega (arith, p, m, e) in
       let site : k.site ≡ s = omega (arith, one, l, w) in
@@ -111,7 +111,7 @@ module _ (h : List Op) (o : ObjectId) (ls : List (List Setter)) (logs : AreLogsO
   in_order : (t : Attr) (s m n : ℕ) → s < 8 → (a : Stands h o ls t s m) → (b : Stands h o ls t s n)
       → m ≤ n → a.op.id.seq ≤ b.op.id.seq
   in_order t s m n l a b u =
-      let x = a.number in let y = b.number in
+      let x = a.key in let y = b.key in
       let v = got_at (setters ls t s) a.index a.setter a.at in
       let w = got_at (setters ls t s) b.index b.setter b.at in
       let p = a.seq in let q = b.seq in
@@ -271,9 +271,9 @@ module _ (h : List Op) (ls : List (List Setter)) where
   other_value None v = (λ t e. absurd cc, λ f. refl)
 
   pub others_differ : (n m : ℕ) (v : Value) (b : Bool) → Some v ≡ value_of h ls n
-      → b ≡ number_gives h ls v m → IsTrue (not b) ↔ (value_of h ls n ≢ value_of h ls m)
+      → b ≡ key_gives h ls v m → IsTrue (not b) ↔ (value_of h ls n ≢ value_of h ls m)
   others_differ n m v b e f =
-      let same : number_gives h ls v m ≡ is_value (value_of h ls m) v = ap (λ r. is_value r v)
+      let same : key_gives h ls v m ≡ is_value (value_of h ls m) v = ap (λ r. is_value r v)
       (value_found (position_of ls m)) in
       subst (λ z. IsTrue (not z) ↔ (value_of h ls n ≢ value_of h ls m)) (sym (f ∙ same))
       (subst (λ z. IsTrue (not (is_value (value_of h ls m) v)) ↔ (z ≢ value_of h ls m)) e
@@ -281,7 +281,7 @@ module _ (h : List Op) (ls : List (List Setter)) where
 
   -- a next one with the same value hands its own on
   pub other_kept : (n : ℕ) (r : Option Member) (m : Member) → r ≡ Some m
-      → ¬ (value_of h ls n ≢ value_of h ls m.number) → OneLog m.number n
+      → ¬ (value_of h ls n ≢ value_of h ls m.key) → OneLog m.key n
       → IsOther h ls n r m.other
   other_kept n r m e f one = subst (λ z. IsOther h ls n z m.other) (sym e) (
     λ off. absurd (off one),
@@ -291,10 +291,10 @@ module _ (h : List Op) (ls : List (List Setter)) where
 
 -- a setter stands in one log
 pub log_determined : (h : List Op) (o : ObjectId) (ls : List (List Setter)) → AreLogsOf h o ls
-    → (n q : ℕ) → (k : IsNumber ls n q) → (setter_of n).log ≡ log_of k.attribute k.site
+    → (n q : ℕ) → (k : IsKey ls n q) → (setter_of n).log ≡ log_of k.attribute k.site
 log_determined h o ls logs n q k =
     let p = index_short h o ls logs k.attribute k.site k.index k.setter k.within k.at in
-    let m = k.number in
+    let m = k.key in
     omega (arith, p, m)
 
 module _ (h : List Op) (o : ObjectId) (ls : List (List Setter)) (us : List ℕ) (ms : List Member)
@@ -304,7 +304,7 @@ module _ (h : List Op) (o : ObjectId) (ls : List (List Setter)) (us : List ℕ) 
       w.attribute w.site w.within (w.log ∙ w.unknown.log)
 
   abbrev at_n : (t : Attr) × (r : ℕ) × Stands h o ls t r n
-  at_n = let z = conflict_numbers h o ls w.members.logs y n w.conflict in
+  at_n = let z = conflict_keys h o ls w.members.logs y n w.conflict in
       (z.3.attribute, z.3.site, stands h o ls w.members.logs n z.1 z.3)
 
   -- what conflicts is of the attribute of the setter
@@ -318,9 +318,9 @@ module _ (h : List Op) (o : ObjectId) (ls : List (List Setter)) (us : List ℕ) 
 
   -- what stands in the log has its index there
   index_is : (x : ℕ) → (d : Stands h o ls w.attribute w.site x) → (setter_of x).index ≡ d.index
-  index_is x d = (setter_of-log_number (log_of w.attribute w.site) d.index x
+  index_is x d = (setter_of-log_key (log_of w.attribute w.site) d.index x
       (index_short h o ls w.members.logs w.attribute w.site d.index d.setter w.within d.at)
-      d.number).1
+      d.key).1
 
   -- y stands from k on
   pub from_start : k.index ≤ (setter_of y).index
@@ -353,15 +353,15 @@ module _ (h : List Op) (o : ObjectId) (ls : List (List Setter)) (us : List ℕ) 
       (inr of_attribute) w.conflict k w.unknown
 
   -- THE FIRST MEMBER from k on, or its other, conflicts
-  pub first_conflicts : (f : Member) → IsOfLog ms k f → f.number ≤ y
-      → ConflictDirectly h ls f.number n ⊎ ((x : ℕ) × (f.other ≡ Some x) × ConflictDirectly h ls x
+  pub first_conflicts : (f : Member) → IsOfLog ms k f → f.key ≤ y
+      → ConflictDirectly h ls f.key n ⊎ ((x : ℕ) × (f.other ≡ Some x) × ConflictDirectly h ls x
       n)
   first_conflicts f c le =
-      let d = at_member f.number (w.members.members.listed f c.listed) c.log in
+      let d = at_member f.key (w.members.members.listed f c.listed) c.log in
       let e = of_attribute.1 in
-      elim (values_parted (value_of h ls f.number) (value_of h ls n) d.value e.value d.gives
+      elim (values_parted (value_of h ls f.key) (value_of h ls n) d.value e.value d.gives
       e.gives) [
-        | inr differ ↦ inl (before_y f.number d (subst (λ z. k.index ≤ z) (index_is f.number d)
+        | inr differ ↦ inl (before_y f.key d (subst (λ z. k.index ≤ z) (index_is f.key d)
             c.from) le differ)
         | inl same ↦
             let parted = (conflict_values h o ls w.members.logs w.valid y n w.attribute
@@ -383,7 +383,7 @@ module _ (h : List Op) (o : ObjectId) (ls : List (List Setter)) (us : List ℕ) 
       ]
 
   -- the member of y stands from k on
-  pub member_there : (m : Member) × IsOfLog ms k m × (m.number ≡ y)
+  pub member_there : (m : Member) × IsOfLog ms k m × (m.key ≡ y)
   member_there =
       let m = w.members.members.all y w.among in
       let e = m.2 in
@@ -400,7 +400,7 @@ module _ (h : List Op) (o : ObjectId) (ls : List (List Setter)) (us : List ℕ) 
 -- no setter of us of the first j sites conflicts
 abbrev pub NoneAt : List Op → List (List Setter) → List Member → ℕ → ℕ → Type 0
 NoneAt h ls ms n j = (o : ObjectId) (us : List ℕ) → AreMembersOf h o ls us ms → (y q : ℕ)
-    → Contains us y → (k : IsNumber ls y q) → k.site < j → ¬ (ConflictDirectly h ls y n)
+    → Contains us y → (k : IsKey ls y q) → k.site < j → ¬ (ConflictDirectly h ls y n)
 
 module _ (h : List Op) (ls : List (List Setter)) (ms : List Member) (n : ℕ) where
   pub none_yet : NoneAt h ls ms n 0
@@ -418,7 +418,7 @@ module _ (h : List Op) (ls : List (List Setter)) (ms : List Member) (n : ℕ) wh
         | inr more ↦
             let here : k.site ≡ j = omega (arith, more, m) in
             let a = stands h o ls members.logs y q k in
-            let z = conflict_numbers h o ls members.logs y n c in
+            let z = conflict_keys h o ls members.logs y n c in
             let b = stands h o ls members.logs n z.1 z.3 in
             let second : c.second ≡ op = some_one c.second op (sym c.at_second ∙ found) in
             let own : b.op ≡ op = some_one b.op op (sym b.found ∙ found) in
@@ -456,7 +456,7 @@ module _ (h : List Op) (ls : List (List Setter)) (ms : List Member) (n : ℕ) wh
   pub none_given : (o : ObjectId) (us : List ℕ) → AreMembersOf h o ls us ms → (op : Op)
       → op_of h ls n ≡ Some op → op_value (Some op) ≡ None → ¬ (ConflictsWithOne h ls us n)
   none_given o us members op found e w =
-      let z = conflict_numbers h o ls members.logs w.one n w.conflict in
+      let z = conflict_keys h o ls members.logs w.one n w.conflict in
       let b = stands h o ls members.logs n z.1 z.3 in
       let own : b.op ≡ op = some_one b.op op (sym b.found ∙ found) in
       let g : Some b.value ≡ None = ap value_set (sym b.change)
@@ -466,7 +466,7 @@ module _ (h : List Op) (ls : List (List Setter)) (ms : List Member) (n : ℕ) wh
 -- ---- the members one by one
 
 module _ (h : List Op) (ls : List (List Setter)) where
-  -- what is put in front of the numbers comes behind the members
+  -- what is put in front of the keys comes behind the members
   pub members_none : AreMembers h ls [] []
   members_none = record {
     falling = λ i j d k l. absurd (omega (arith, l));
@@ -479,27 +479,27 @@ module _ (h : List Op) (ls : List (List Setter)) where
       (below : (u : ℕ) → Contains us u → x < u)
       (other : IsOther h ls x (slice_get ms (length ms - 1)) r) where
     abbrev new : Member
-    new = record { number = x; other = r }
+    new = record { key = x; other = r }
 
     -- the last member is the least one
     last_least : (l : Member) → slice_get ms (length ms - 1) ≡ Some l
-        → Contains ms l × ((m : Member) → Contains ms m → l.number ≤ m.number)
+        → Contains ms l × ((m : Member) → Contains ms m → l.key ≤ m.key)
     last_least l e =
         let w = got_at ms (length ms - 1) l e in (
           (length ms - 1, w.0, w.1),
           λ m i. elim (cases_lt i.0 (length ms - 1)) [
             | inl k ↦
                 let f = are.falling i.0 (length ms - 1) m k w.0 in
-                let g = subst (λ (z : Member). z.number < (slice_index_or ms i.0 m).number)
+                let g = subst (λ (z : Member). z.key < (slice_index_or ms i.0 m).key)
                 (get_or_default ms (length ms - 1) m l w.0 ∙ w.1) f in
-                let q = subst (λ (z : Member). l.number < z.number) i.2 g in
+                let q = subst (λ (z : Member). l.key < z.key) i.2 g in
                 omega (arith, q)
             | inr k ↦
                 let b = i.1 in
                 let at : i.0 ≡ length ms - 1 = omega (arith, k, b) in
                 let same : l ≡ m = sym w.1 ∙ (sym (get_or_default ms (length ms - 1) m l w.0)
                 ∙ (ap (λ z. slice_index_or ms z m) (sym at) ∙ i.2)) in
-                let f : l.number ≡ m.number = ap (λ (z : Member). z.number) same in
+                let f : l.key ≡ m.key = ap (λ (z : Member). z.key) same in
                 omega (arith, f)
           ],
         )
@@ -525,19 +525,19 @@ module _ (h : List Op) (ls : List (List Setter)) where
     is_member = by_last (slice_get ms (length ms - 1)) refl other
       where
         by_values : (l : Member) → Contains ms l × ((m : Member) → Contains ms m
-            → l.number ≤ m.number) → OneLog l.number x → IsOther h ls x (Some l) r →
-            (value_of h ls x ≡ value_of h ls l.number) ⊎ (value_of h ls x ≢ value_of h ls l.number)
+            → l.key ≤ m.key) → OneLog l.key x → IsOther h ls x (Some l) r →
+            (value_of h ls x ≡ value_of h ls l.key) ⊎ (value_of h ls x ≢ value_of h ls l.key)
             → PointsToOther h ls (x ∷ us) new
         by_values l w one f (inr differ) =
-            let e : r ≡ Some l.number = f.1 one differ in
+            let e : r ≡ Some l.key = f.1 one differ in
             let inside = are.listed l w.0 in
-            let low = below l.number inside in
+            let low = below l.key inside in
             record {
               is = λ o g.
-                  let same : l.number ≡ o = some_one l.number o (sym e ∙ g) in
+                  let same : l.key ≡ o = some_one l.key o (sym e ∙ g) in
                   subst (λ z. Contains (x ∷ us) z × OneLog z x × (x ≤ z)
                   × (value_of h ls z ≢ value_of h ls x)) same (
-                    tail l.number inside,
+                    tail l.key inside,
                     one,
                     omega (arith, low),
                     λ k. differ (sym k),
@@ -545,13 +545,13 @@ module _ (h : List Op) (ls : List (List Setter)) where
               first = λ y i c le d. elim (Contains-cons_cases x us y i) [
                 | inl same ↦ absurd (d (ap (value_of h ls) same))
                 | inr j ↦ let n = are.all y j in let q = w.1 n.0 n.1 in let k = n.2 in
-                    (l.number, e, omega (arith, q, k))
+                    (l.key, e, omega (arith, q, k))
               ];
             }
         by_values l w one f (inl same) =
             let e : r ≡ l.other = f.2 one same in
             let m = are.each l w.0 in
-            let low = below l.number (are.listed l w.0) in
+            let low = below l.key (are.listed l w.0) in
             record {
               is = λ o g.
                   let k = m.is o (sym e ∙ g) in
@@ -570,10 +570,10 @@ module _ (h : List Op) (ls : List (List Setter)) where
             }
 
         by_log : (l : Member) → Contains ms l × ((m : Member) → Contains ms m
-            → l.number ≤ m.number) → IsOther h ls x (Some l) r
-            → (OneLog l.number x) ⊎ (¬ (OneLog l.number x)) → PointsToOther h ls (x ∷ us) new
+            → l.key ≤ m.key) → IsOther h ls x (Some l) r
+            → (OneLog l.key x) ⊎ (¬ (OneLog l.key x)) → PointsToOther h ls (x ∷ us) new
         by_log l w f (inl one) = by_values l w one f
-            (options_parted (value_of h ls x) (value_of h ls l.number))
+            (options_parted (value_of h ls x) (value_of h ls l.key))
         by_log l w f (inr off) = record {
           is = λ o g. absurd (let k : None ≡ Some o = sym (f.0 off) ∙ g in cc);
           first = λ y i c le d. elim (Contains-cons_cases x us y i) [
@@ -582,7 +582,7 @@ module _ (h : List Op) (ls : List (List Setter)) where
                 let n = are.all y j in
                 let q = w.1 n.0 n.1 in
                 let k = n.2 in
-                let up = below l.number (are.listed l w.0) in
+                let up = below l.key (are.listed l w.0) in
                 absurd (off (omega (arith, q, k, up, c)))
           ];
         }
@@ -597,13 +597,13 @@ module _ (h : List Op) (ls : List (List Setter)) where
           ];
         }
         by_last (Some l) e f = by_log l (last_least l e) f
-            (cases_eq (setter_of l.number).log (setter_of x).log)
+            (cases_eq (setter_of l.key).log (setter_of x).log)
 
     -- an old member does not see the new one, which is below it
     still_member : (m : Member) → Contains ms m → PointsToOther h ls (x ∷ us) m
     still_member m i =
         let k = are.each m i in
-        let low = below m.number (are.listed m i) in
+        let low = below m.key (are.listed m i) in
         record {
           is = λ o g. let t = k.is o g in (tail o t.0, t.1, t.2, t.3);
           first = λ y j c le d. elim (Contains-cons_cases x us y j) [
@@ -619,29 +619,29 @@ module _ (h : List Op) (ls : List (List Setter)) where
         | inl a ↦
             let b = pushed_before ms new i d (let u = a.0 in omega (arith, k, u)) in
             let f = are.falling i j d k a.0 in
-            let p : (slice_index_or (ms ++ new ∷ []) j d).number ≡ (slice_index_or ms j d).number =
-            ap (λ (z : Member). z.number) a.1 in
-            let q : (slice_index_or (ms ++ new ∷ []) i d).number ≡ (slice_index_or ms i d).number =
-            ap (λ (z : Member). z.number) b in
+            let p : (slice_index_or (ms ++ new ∷ []) j d).key ≡ (slice_index_or ms j d).key =
+            ap (λ (z : Member). z.key) a.1 in
+            let q : (slice_index_or (ms ++ new ∷ []) i d).key ≡ (slice_index_or ms i d).key =
+            ap (λ (z : Member). z.key) b in
             omega (arith, f, p, q)
         | inr a ↦
             let at = a.0 in
             let b = pushed_before ms new i d (omega (arith, k, at)) in
-            let f = below (slice_index_or ms i d).number
+            let f = below (slice_index_or ms i d).key
             (are.listed (slice_index_or ms i d) (
               i,
               omega (arith, k, at),
               get_or_default ms i (slice_index_or ms i d) d (omega (arith, k, at)),
             )) in
-            let p : (slice_index_or (ms ++ new ∷ []) j d).number ≡ x = ap (λ (z : Member). z.number)
+            let p : (slice_index_or (ms ++ new ∷ []) j d).key ≡ x = ap (λ (z : Member). z.key)
             a.1 in
-            let q : (slice_index_or (ms ++ new ∷ []) i d).number ≡ (slice_index_or ms i d).number =
-            ap (λ (z : Member). z.number) b in
+            let q : (slice_index_or (ms ++ new ∷ []) i d).key ≡ (slice_index_or ms i d).key =
+            ap (λ (z : Member). z.key) b in
             omega (arith, f, p, q)
       ];
       listed = λ m i. elim (Contains-push_cases ms new m i) [
-        | inl j ↦ tail m.number (are.listed m j)
-        | inr e ↦ subst (λ (z : Member). Contains (x ∷ us) z.number) e (Contains-cons_head x us)
+        | inl j ↦ tail m.key (are.listed m j)
+        | inr e ↦ subst (λ (z : Member). Contains (x ∷ us) z.key) e (Contains-cons_head x us)
       ];
       all = λ y i. elim (Contains-cons_cases x us y i) [
         | inl e ↦ (new, Contains-push ms new, sym e)
@@ -653,7 +653,7 @@ module _ (h : List Op) (ls : List (List Setter)) where
       ];
     }
 
--- ---- rising numbers from behind
+-- ---- rising keys from behind
 
 below_from_less : (a b : ℕ) → nat_cmp a b ≡ Less → a < b
 below_from_less a b e = subst (λ (o : Ordering). MatchOrdering o (a < b) (a ≡ b) (b < a)) e
@@ -669,12 +669,12 @@ rising_drop (y ∷ ys) r (suc k) d l u i =
     rising_drop ys (sorted_tail nat_cmp y ys r) k d (omega (arith, l)) u
     (subst (λ z. Contains (drop z (y ∷ ys)) u) e i)
 
--- the next number from behind stands in front of those that were met
+-- the next key from behind stands in front of those that were met
 pub next_behind : (h : List Op) (ls : List (List Setter)) (xs : List ℕ) → IsRising xs → (b d : ℕ)
     → b < length xs → (ms new : List Member) → AreMembers h ls (drop (length xs - b) xs) ms
     → (r : Option ℕ) →
     IsOther h ls (slice_index_or xs (length xs - 1 - b) d) (slice_get ms (length ms - 1)) r
-    → new ≡ ms ++ record { number = slice_index_or xs (length xs - 1 - b) d; other = r } ∷ []
+    → new ≡ ms ++ record { key = slice_index_or xs (length xs - 1 - b) d; other = r } ∷ []
     → AreMembers h ls (drop (length xs - (b + 1)) xs) new
 next_behind h ls xs rises b d l ms new are r other e =
     let k = length xs - 1 - b in
@@ -701,47 +701,47 @@ pub none_behind : (h : List Op) (ls : List (List Setter)) (xs : List ℕ)
 none_behind h ls xs = subst (λ z. AreMembers h ls z [])
     (sym (drop_all (length xs - 0) xs (omega arith))) (members_none h ls)
 
--- ---- the first member from a number on
+-- ---- the first member from a key on
 
-pub numbers_parted : (ms : List Member) → AreFalling ms → (k : ℕ) (i j : ℕ) (d : Member) → i ≤ j
-    → j < length ms → nat_le k (slice_index_or ms j d).number ≡ true
-    → nat_le k (slice_index_or ms i d).number ≡ true
-numbers_parted ms f k i j d l m t =
-    let u = leb-true k (slice_index_or ms j d).number t in
-    let w : (slice_index_or ms j d).number ≤ (slice_index_or ms i d).number = elim (cases_lt i j) [
+pub keys_parted : (ms : List Member) → AreFalling ms → (k : ℕ) (i j : ℕ) (d : Member) → i ≤ j
+    → j < length ms → nat_le k (slice_index_or ms j d).key ≡ true
+    → nat_le k (slice_index_or ms i d).key ≡ true
+keys_parted ms f k i j d l m t =
+    let u = leb-true k (slice_index_or ms j d).key t in
+    let w : (slice_index_or ms j d).key ≤ (slice_index_or ms i d).key = elim (cases_lt i j) [
       | inl n ↦ let v = f i j d n m in omega (arith, v)
       | inr n ↦ let e : i ≡ j = omega (arith, l, n) in
-          let v : (slice_index_or ms i d).number ≡ (slice_index_or ms j d).number = ap
-          (λ z. (slice_index_or ms z d).number) e in omega (arith, v)
+          let v : (slice_index_or ms i d).key ≡ (slice_index_or ms j d).key = ap
+          (λ z. (slice_index_or ms z d).key) e in omega (arith, v)
     ] in
-    le-leb k (slice_index_or ms i d).number (omega (arith, u, w))
+    le-leb k (slice_index_or ms i d).key (omega (arith, u, w))
 
 module _ (ms : List Member) (falls : AreFalling ms) (k p : ℕ) (before : (i : ℕ) (d : Member) → i < p
-    → i < length ms → nat_le k (slice_index_or ms i d).number ≡ true)
+    → i < length ms → nat_le k (slice_index_or ms i d).key ≡ true)
     (behind : (i : ℕ) (d : Member) → p ≤ i → i < length ms
-    → nat_le k (slice_index_or ms i d).number ≡ false) where
+    → nat_le k (slice_index_or ms i d).key ≡ false) where
   -- a member from k on stands before p
-  stands_before : (m : Member) (i : Contains ms m) → k ≤ m.number → i.0 < p
+  stands_before : (m : Member) (i : Contains ms m) → k ≤ m.key → i.0 < p
   stands_before m i l = elim (cases_lt i.0 p) [
     | inl u ↦ u
     | inr u ↦
         let f = behind i.0 m u i.1 in
-        let t : nat_le k m.number ≡ true = le-leb k m.number l in
-        let g : nat_le k m.number ≡ false = subst (λ (z : Member). nat_le k z.number ≡ false) i.2 f
+        let t : nat_le k m.key ≡ true = le-leb k m.key l in
+        let g : nat_le k m.key ≡ false = subst (λ (z : Member). nat_le k z.key ≡ false) i.2 f
         in
         absurd cc
   ]
 
-  pub none_from : p ≡ 0 → (m : Member) → Contains ms m → k ≤ m.number → ⊥
+  pub none_from : p ≡ 0 → (m : Member) → Contains ms m → k ≤ m.key → ⊥
   none_from e m i l = let u = stands_before m i l in omega (arith, u, e)
 
   pub first_least : (f : Member) (q : ℕ) → q + 1 ≡ p → slice_get ms q ≡ Some f
-      → Contains ms f × (k ≤ f.number) × ((m : Member) → Contains ms m → k ≤ m.number
-      → f.number ≤ m.number)
+      → Contains ms f × (k ≤ f.key) × ((m : Member) → Contains ms m → k ≤ m.key
+      → f.key ≤ m.key)
   first_least f q e at =
       let w = got_at ms q f at in
       let t = before q f (omega (arith, e)) w.0 in
-      let from = leb-true k f.number (subst (λ (z : Member). nat_le k z.number ≡ true) w.1 t) in (
+      let from = leb-true k f.key (subst (λ (z : Member). nat_le k z.key ≡ true) w.1 t) in (
         (q, w.0, w.1),
         from,
         λ m i l.
@@ -749,16 +749,16 @@ module _ (ms : List Member) (falls : AreFalling ms) (k p : ℕ) (before : (i : �
             elim (cases_lt i.0 q) [
               | inl n ↦
                   let v = falls i.0 q m n w.0 in
-                  let a = subst (λ (z : Member). z.number < (slice_index_or ms i.0 m).number)
+                  let a = subst (λ (z : Member). z.key < (slice_index_or ms i.0 m).key)
                   (get_or_default ms q m f w.0 ∙ w.1) v in
-                  let b = subst (λ (z : Member). f.number < z.number) i.2 a in
+                  let b = subst (λ (z : Member). f.key < z.key) i.2 a in
                   omega (arith, b)
               | inr n ↦
                   let here : i.0 ≡ q = omega (arith, n, u, e) in
                   let same : f ≡ m = sym w.1
                   ∙ (sym (get_or_default ms q m f w.0) ∙ (ap (λ z. slice_index_or ms z m) (sym here)
                   ∙ i.2)) in
-                  let c : f.number ≡ m.number = ap (λ (z : Member). z.number) same in
+                  let c : f.key ≡ m.key = ap (λ (z : Member). z.key) same in
                   omega (arith, c)
             ],
       )

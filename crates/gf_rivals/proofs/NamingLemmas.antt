@@ -17,25 +17,30 @@ use Rattle.gf_ops.specs.ValidHistory.{IsValid}
 use Rattle.gf_ops.proofs.HistoryLemmas.{site_in_range}
 use Rattle.gf_ops.proofs.ValidityLemmas.{same_op}
 use Rattle.gf_rivals.specs.declared.log.Setter.{Setter}
+use Rattle.gf_rivals.specs.declared.setter_index.SetterIndex.{SetterIndex}
+use Rattle.gf_rivals.specs.SetterIndexes.{key_of}
 use Rattle.gf_rivals.specs.Logs.{log_of, setters}
 use Rattle.gf_rivals.specs.Giving.{value_set}
-use Rattle.gf_rivals.specs.Naming.{AddsNamed, HasSeq, IsNamed, IsSetterNumber}
+use Rattle.gf_rivals.specs.Naming.{AddsNamed, HasSeq, IsNamed, IsSetterKey}
 use Rattle.gf_rivals.specs.Rivals.{AreLogsOf}
 use Rattle.gf_rivals.proofs.IndexLemmas.{Contains-joined}
-use Rattle.gf_rivals.proofs.NumberLemmas.{some_one, contained_at}
-use Rattle.gf_rivals.proofs.SetterIndexLemmas.{log_number}
+use Rattle.gf_rivals.proofs.KeyLemmas.{some_one, contained_at}
+use Rattle.gf_rivals.proofs.SetterIndexLemmas.{log_key}
 
 -- ---- in one log
 
--- the setter with the number m in its log has an index there
-pub index_in : (ls : List (List Setter)) (i k m n : ℕ) (ss : List Setter)
-    → ss ≡ slice_index_or ls i [] → i ≡ k → IsSetterNumber ls k m n
-    → (p : ℕ) × HasSeq ss m p × (n ≡ log_number i p)
-index_in ls i k m n ss e same w = (
-  w.index,
-  subst (λ z. HasSeq z m w.index) (sym (e ∙ ap (λ z. slice_index_or ls z []) same)) w.setter,
-  w.number ∙ ap (λ z. log_number z w.index) (sym same),
-)
+-- a setter of the log with the index k is one of the list ss, which is this log
+pub seq_in : (ls : List (List Setter)) (i k m p : ℕ) (ss : List Setter)
+    → ss ≡ slice_index_or ls i [] → i ≡ k → HasSeq (slice_index_or ls k []) m p → HasSeq ss m p
+seq_in ls i k m p ss e same w =
+    subst (λ z. HasSeq z m p) (sym (e ∙ ap (λ z. slice_index_or ls z []) same)) w
+
+-- the setter at an index of a log has its key
+pub setter_key : (ls : List (List Setter)) (t : Attr) (id : OpId) (i : SetterIndex) (n : ℕ)
+    → i.log ≡ log_of t (id.site - 1) → HasSeq (setters ls t (id.site - 1)) id.seq i.index
+    → n ≡ key_of i → IsSetterKey ls (log_of t (id.site - 1)) id.seq n
+setter_key ls t id i n log has e =
+    record { index = i.index; setter = has; key = e ∙ ap (λ k. log_key k i.index) log }
 
 -- ---- by an id
 
@@ -48,7 +53,7 @@ module _ (h : List Op) (o : ObjectId) (ls : List (List Setter)) (logs : AreLogsO
     (id : OpId) where
   -- a setter with the number of the id at its site is that of the id
   pub named_from : (t : Attr) (n : ℕ) → IsSite id.site
-      → IsSetterNumber ls (log_of t (id.site - 1)) id.seq n → IsNamed h ls id n
+      → IsSetterKey ls (log_of t (id.site - 1)) id.seq n → IsNamed h ls id n
   named_from t n site w =
       let within : id.site - 1 < 8 = let l = site in omega (arith, l.0, l.1) in
       let e = w.setter.setter in
@@ -59,33 +64,27 @@ module _ (h : List Op) (o : ObjectId) (ls : List (List Setter)) (logs : AreLogsO
       record {
         position = e.position;
         op = is.op;
-        number = record {
+        key = record {
           attribute = t;
           site = id.site - 1;
           within = within;
           index = w.index;
           setter = e;
           at = w.setter.at;
-          number = w.number;
+          key = w.key;
           position = refl;
         };
         at = is.at;
         named = λ i. record { site = own i; seq = seq i };
       }
 
-  pub some_named : (t : Attr) (r : Option ℕ) → IsSite id.site
-      → IfSome r (λ n. IsSetterNumber ls (log_of t (id.site - 1)) id.seq n)
-      → IfSome r (λ n. IsNamed h ls id n)
-  some_named t (Some n) site w = named_from t n site w
-  some_named t None site w = tt
-
   -- the setter of the id stands in the log of the attribute that its operation sets
   pub numbered_from : IsValid h → (op : Op) (x : ObjectId) (v : Value) (aim : List OpId)
       → Contains h op → op.id ≡ id → op.change ≡ Set x v aim →
       (t : Attr) → t ≡ attribute_of v → (n : ℕ) → IsNamed h ls id n
-      → IsSetterNumber ls (log_of t (id.site - 1)) id.seq n
+      → IsSetterKey ls (log_of t (id.site - 1)) id.seq n
   numbered_from valid op x v aim c e change t own n k =
-      let m = k.number in
+      let m = k.key in
       let is = logs.each m.attribute m.site m.index m.setter m.within m.at in
       let same : is.op ≡ k.op = some_one is.op k.op
       (sym is.at ∙ (ap (slice_get h) m.position ∙ k.at)) in
@@ -107,15 +106,15 @@ module _ (h : List Op) (o : ObjectId) (ls : List (List Setter)) (logs : AreLogsO
               (subst (λ z. slice_get (setters ls z m.site) m.index ≡ Some m.setter) attribute m.at);
           seq = seq;
         };
-        number = subst (λ z. n ≡ log_number (log_of t z) m.index) site
-            (subst (λ z. n ≡ log_number (log_of z m.site) m.index) attribute m.number);
+        key = subst (λ z. n ≡ log_key (log_of t z) m.index) site
+            (subst (λ z. n ≡ log_key (log_of z m.site) m.index) attribute m.key);
       }
 
   -- what makes an object is no setter
   pub made_unnamed : IsValid h → (op : Op) (start : Start) → Contains h op → op.id ≡ id
       → op.change ≡ Create start → (n : ℕ) → ¬ (IsNamed h ls id n)
   made_unnamed valid op start c e change n k =
-      let m = k.number in
+      let m = k.key in
       let is = logs.each m.attribute m.site m.index m.setter m.within m.at in
       let same : is.op ≡ k.op = some_one is.op k.op
       (sym is.at ∙ (ap (slice_get h) m.position ∙ k.at)) in
@@ -125,12 +124,12 @@ module _ (h : List Op) (o : ObjectId) (ls : List (List Setter)) (logs : AreLogsO
       ∙ (ap (λ (z : Op). value_set z.change) (same ∙ one) ∙ ap value_set change) in
       absurd cc
 
--- ---- one more number
+-- ---- one more key
 
-pub adds_number : (h : List Op) (ls : List (List Setter)) (id : OpId) (x : ℕ) (old new : List ℕ)
+pub adds_key : (h : List Op) (ls : List (List Setter)) (id : OpId) (x : ℕ) (old new : List ℕ)
     → IsNamed h ls id x → ((n : ℕ) → IsNamed h ls id n → Some x ≡ Some n) → new ≡ joined x old
     → AddsNamed h ls id old new
-adds_number h ls id x old new w one e n = (
+adds_key h ls id x old new w one e n = (
   λ i. elim ((Contains-joined x old n).0 (subst (λ z. Contains z n) e i)) [
     | inl j ↦ inl j
     | inr d ↦ inr (subst (λ z. IsNamed h ls id z) (sym d) w)

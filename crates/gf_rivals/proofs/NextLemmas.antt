@@ -1,5 +1,5 @@
 -- The next operation of a valid history: no operation has its id, or knows it, and each of its site
--- has a smaller number.
+-- has a smaller key.
 use Rattle.std.proofs.Common.{◌≡◌, ◌≢◌, ℕ, zero, suc, ◌≤◌, ◌<◌, ◌+◌, List, [], ◌∷◌, map, length}
 use Rattle.std.proofs.Common.{refl, ap, sym, subst, ◌∙◌, inl, inr, arith}
 use Rattle.std.specs.Prelude.{◌⊎◌, Contains, filter, nat_eq}
@@ -42,7 +42,7 @@ taken_out x (k ∷ ks) h = elim (Contains-cons_cases k ks x h) [
   }
 ]
 
--- the id of the site's operation with the number k
+-- the id of the site's operation with the key k
 abbrev numbered : ℕ → ℕ → OpId
 numbered s k = record { site = s; seq = k }
 
@@ -86,7 +86,7 @@ module _ (h : List Op) (valid : IsValid h) where
         subst (λ i. Contains (ids_of b.id.site) i) same (in_ids b c)
   ]
 
-  -- numbers are at most as many as there are
+  -- keys are at most as many as there are
   seq_within : (b : Op) → Contains h b → b.id.seq ≤ count_of h b.id.site
   seq_within b c =
       let l = as_long b.id.site b.id.seq (ids_of b.id.site) (all_numbered b c) in
@@ -96,7 +96,7 @@ module _ (h : List Op) (valid : IsValid h) where
       omega (arith, l, d)
 
   module _ (a : Op) (in_range : IsInRange a) (accepted : IsAccepted h a) where
-    -- each operation of its site has a smaller number
+    -- each operation of its site has a smaller key
     pub earlier : (b : Op) → Contains h b → b.id.site ≡ a.id.site → b.id.seq < a.id.seq
     earlier b c e =
         let l = subst (λ s. b.id.seq ≤ count_of h s) e (seq_within b c) in

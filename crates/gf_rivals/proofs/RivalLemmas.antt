@@ -27,16 +27,16 @@ use Rattle.gf_ops.proofs.SameLemmas.{value_eq-same, value_eq-true}
 use Rattle.gf_rivals.specs.declared.fingerprint.Fingerprint.{Fingerprint}
 use Rattle.gf_rivals.specs.Fingerprints.{fingerprint_of, fingerprint_cmp, has_own_fingerprint}
 use Rattle.gf_rivals.specs.Giving.{op_value, value_set, fingerprint_given}
-use Rattle.gf_rivals.specs.Comparing.{is_value, value_at, number_gives}
-use Rattle.gf_rivals.specs.Indexes.{numbers_at, IsIndex}
+use Rattle.gf_rivals.specs.Comparing.{is_value, value_at, key_gives}
+use Rattle.gf_rivals.specs.Indexes.{keys_at, IsIndex}
 use Rattle.gf_rivals.proofs.FingerprintLemmas.{determined_value}
 use Rattle.gf_rivals.specs.declared.log.Setter.{Setter}
 use Rattle.gf_rivals.specs.Logs.{log_of, setters, position_of, IsUnknown}
-use Rattle.gf_rivals.specs.Rivals.{IsNumber, AreLogsOf, GivesAt, AreRivals, IsDirect}
+use Rattle.gf_rivals.specs.Rivals.{IsKey, AreLogsOf, GivesAt, AreRivals, IsDirect}
 use Rattle.gf_rivals.proofs.NextLemmas.{fresh, unknown}
-use Rattle.gf_rivals.proofs.NumberLemmas.{some_one, contained_at, one_position, position_is}
-use Rattle.gf_rivals.proofs.NumberLemmas.{number_from}
-use Rattle.gf_rivals.proofs.SetterIndexLemmas.{log_number}
+use Rattle.gf_rivals.proofs.KeyLemmas.{some_one, contained_at, one_position, position_is}
+use Rattle.gf_rivals.proofs.KeyLemmas.{key_from}
+use Rattle.gf_rivals.proofs.SetterIndexLemmas.{log_key}
 
 -- ---- values and attributes
 
@@ -77,23 +77,23 @@ module _ (h : List Op) (o : ObjectId) (ls : List (List Setter)) (logs : AreLogsO
 
     -- a rival conflicts
     rival_conflicts : (n : ℕ) → IsUnknown ls t a.past 8 n
-        → ((q : ℕ) → IsNumber ls n q → ¬ (GivesAt h o q v)) → IsDirect h ls a n
+        → ((q : ℕ) → IsKey ls n q → ¬ (GivesAt h o q v)) → IsDirect h ls a n
     rival_conflicts n u other =
         let e = u.setter.setter in
         let is = logs.each t u.site u.setter.index e u.within u.setter.at in
-        let number : IsNumber ls n e.position = record {
+        let key : IsKey ls n e.position = record {
           attribute = t;
           site = u.site;
           within = u.within;
           index = u.setter.index;
           setter = e;
           at = u.setter.at;
-          number = u.setter.number;
+          key = u.setter.key;
           position = refl;
         } in record {
           position = e.position;
           op = is.op;
-          number = number;
+          key = key;
           at = is.at;
           direct = record {
             concurrent = record {
@@ -116,7 +116,7 @@ module _ (h : List Op) (o : ObjectId) (ls : List (List Setter)) (logs : AreLogsO
               first_given = gives a v change;
               second_given = subst (λ z. change_value is.op.change z ≡ Some is.value) is.attribute
                   (gives is.op is.value is.change);
-              differ = λ f. other e.position number
+              differ = λ f. other e.position key
                   (record {
                     op = is.op;
                     at = is.at;
@@ -129,9 +129,9 @@ module _ (h : List Op) (o : ObjectId) (ls : List (List Setter)) (logs : AreLogsO
 
     -- what conflicts is a rival
     conflict_rivals : (n : ℕ) → IsDirect h ls a n
-        → IsUnknown ls t a.past 8 n × ((q : ℕ) → IsNumber ls n q → ¬ (GivesAt h o q v))
+        → IsUnknown ls t a.past 8 n × ((q : ℕ) → IsKey ls n q → ¬ (GivesAt h o q v))
     conflict_rivals n c =
-        let k = c.number in
+        let k = c.key in
         let is = logs.each k.attribute k.site k.index k.setter k.within k.at in
         let same_op : is.op ≡ c.op = some_one is.op c.op
         (sym is.at ∙ (ap (slice_get h) k.position ∙ c.at)) in
@@ -158,7 +158,7 @@ module _ (h : List Op) (o : ObjectId) (ls : List (List Setter)) (logs : AreLogsO
               setter = k.setter;
               at = subst (λ z. slice_get (setters ls z k.site) k.index ≡ Some k.setter) one k.at;
               unknown = late;
-              number = subst (λ z. n ≡ log_number (log_of z k.site) k.index) one k.number;
+              key = subst (λ z. n ≡ log_key (log_of z k.site) k.index) one k.key;
             };
           },
           λ q m g.
@@ -186,7 +186,7 @@ module _ (h : List Op) (o : ObjectId) (ls : List (List Setter)) (logs : AreLogsO
     (u : List ℕ) (unknowns : (n : ℕ) → Contains u n ↔ IsUnknown ls (attribute_of v) past 8 n) where
   -- a setter that gives v
   Gives : ℕ → Type 0
-  Gives n = (q : ℕ) × IsNumber ls n q × GivesAt h o q v
+  Gives n = (q : ℕ) × IsKey ls n q × GivesAt h o q v
 
   -- the unknown ones without e, which give v and are all unknown ones that do
   rivals_by : (e d : List ℕ) → ((n : ℕ) → Contains e n → Gives n)
@@ -198,8 +198,8 @@ module _ (h : List Op) (o : ObjectId) (ls : List (List Setter)) (logs : AreLogsO
     λ i. (k n).1 ((unknowns n).1 i.0, λ j. let w = f n j in i.1 w.0 w.1 w.2),
   )
 
-  -- what stands at a number's position sets a value of the object
-  value_set_at : (n q : ℕ) → IsNumber ls n q → (x : Value) × GivesAt h o q x
+  -- what stands at a key's position sets a value of the object
+  value_set_at : (n q : ℕ) → IsKey ls n q → (x : Value) × GivesAt h o q x
   value_set_at n q k =
       let i = logs.each k.attribute k.site k.index k.setter k.within k.at in (
         i.value,
@@ -215,12 +215,12 @@ module _ (h : List Op) (o : ObjectId) (ls : List (List Setter)) (logs : AreLogsO
   value_given_at q x g = ap op_value g.at ∙ ap value_set g.change
 
   -- the index has each setter that gives v under the fingerprint of v
-  listed : (n : ℕ) → Gives n → Contains (numbers_at ix (fingerprint_of v)) n
+  listed : (n : ℕ) → Gives n → Contains (keys_at ix (fingerprint_of v)) n
   unfolding Gives
   listed n w = (index (fingerprint_of v) n).1
       (record {
         position = w.0;
-        number = w.1;
+        key = w.1;
         given = ap fingerprint_given (value_given_at w.0 v w.2);
       })
 
@@ -235,7 +235,7 @@ module _ (h : List Op) (o : ObjectId) (ls : List (List Setter)) (logs : AreLogsO
 
   module _ (s : List ℕ) (some : lookup (is_at (fingerprint_cmp (fingerprint_of v))) ix ≡ Some
       s) where
-    there : numbers_at ix (fingerprint_of v) ≡ s
+    there : keys_at ix (fingerprint_of v) ≡ s
     there = ap (λ (r : Option (List ℕ)). unwrap_or r []) some
 
     -- all setters with the fingerprint of v give v
@@ -245,12 +245,12 @@ module _ (h : List Op) (o : ObjectId) (ls : List (List Setter)) (logs : AreLogsO
     rivals_own own d e = rivals_by s d
         (λ n i.
         let f = (index (fingerprint_of v) n).0 (subst (λ z. Contains z n) (sym there) i) in
-        let x = value_set_at n f.position f.number in
+        let x = value_set_at n f.position f.key in
         let same : fingerprint_of x.0 ≡ fingerprint_of v =
         some_one (fingerprint_of x.0) (fingerprint_of v)
         (ap fingerprint_given (sym (value_given_at f.position x.0 x.1)) ∙ f.given) in (
           f.position,
-          f.number,
+          f.key,
           subst (GivesAt h o f.position) (determined_value v x.0 own same) x.1,
         ))
         (λ n i w. subst (λ z. Contains z n) there (listed n w))
@@ -259,7 +259,7 @@ module _ (h : List Op) (o : ObjectId) (ls : List (List Setter)) (logs : AreLogsO
 
     -- only the setters e of those that are unknown give v
     pub rivals_compared : (c e d : List ℕ) → c ≡ common s u
-        → ((n : ℕ) → Contains e n ↔ (Contains c n × (number_gives h ls v n ≡ true)))
+        → ((n : ℕ) → Contains e n ↔ (Contains c n × (key_gives h ls v n ≡ true)))
         → d ≡ without e u → AreRivals h o ls v past d
     unfolding Gives
     rivals_compared c e d both f k = rivals_by e d
@@ -276,14 +276,14 @@ module _ (h : List Op) (o : ObjectId) (ls : List (List Setter)) (logs : AreLogsO
         (λ n. let w = Contains-without e u n in
         (λ i. w.0 (subst (λ z. Contains z n) k i), λ i. subst (λ z. Contains z n) (sym k) (w.1 i)))
       where
-        gives_v : (n : ℕ) → number_gives h ls v n ≡ true → Gives n
+        gives_v : (n : ℕ) → key_gives h ls v n ≡ true → Gives n
         gives_v n t = by_position (position_of ls n) refl t
           where
             by_position : (r : Option ℕ) → position_of ls n ≡ r → is_value (value_at h r) v ≡ true
                 → Gives n
             by_position None a b = absurd cc
             by_position (Some q) a b =
-                let m = number_from h o ls logs n q a in
+                let m = key_from h o ls logs n q a in
                 let x = value_set_at n q m in
                 let same : x.0 ≡ v = value_eq-true x.0 v
                 (ap (λ r. is_value r v) (sym (value_given_at q x.0 x.1)) ∙ b) in

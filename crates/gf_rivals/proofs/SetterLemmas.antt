@@ -15,10 +15,10 @@ use Rattle.gf_maximal.proofs.PutLemmas.{Contains-range}
 use Rattle.gf_maximal.proofs.UnitedLemmas.{Contains-united}
 use Rattle.gf_maximal.specs.Growing.{united}
 use Rattle.gf_rivals.specs.declared.log.Setter.{Setter}
-use Rattle.gf_rivals.specs.Setters.{AreSetters, IsCountUpTo, IsNumberAbove}
+use Rattle.gf_rivals.specs.Setters.{AreSetters, IsCountUpTo, IsKeyAbove}
 use Rattle.gf_ops.specs.Attribute.{attribute_index}
 use Rattle.gf_rivals.specs.Logs.{log_of, setters, IsUnknown}
-use Rattle.gf_rivals.proofs.SetterIndexLemmas.{log_number}
+use Rattle.gf_rivals.proofs.SetterIndexLemmas.{log_key}
 
 seq_up_to : (m n : ℕ) → nat_le m n ≡ true → m ≤ n
 seq_up_to m n h = grind (arith, nat_tests)
@@ -56,17 +56,17 @@ from_index (t ∷ ss) (suc i) s e = let w = from_index ss i s e in (let l = w.0 
 a_setter : Setter
 a_setter = record { seq = 0; position = 0 }
 
--- the numbers from the first unknown one on are those of the setters above m
+-- the keys from the first unknown one on are those of the setters above m
 pub above_exact : (ss : List Setter) (b m k n : ℕ) (g : List ℕ) → IsCountUpTo ss m k
-    → g ≡ range_with_len (log_number b k) (log_number b (length ss) - log_number b k)
-    → Contains g n ↔ IsNumberAbove ss b m n
+    → g ≡ range_with_len (log_key b k) (log_key b (length ss) - log_key b k)
+    → Contains g n ↔ IsKeyAbove ss b m n
 above_exact ss b m k n g c e =
-    let r = Contains-range (log_number b (length ss) - log_number b k) (log_number b k) n in
+    let r = Contains-range (log_key b (length ss) - log_key b k) (log_key b k) n in
     let bound = c.bound in (
       λ h.
           let w = r.0 (subst (λ z. Contains z n) e h) in
           let l = w.0 in let u = w.1 in
-          let p = n - log_number b 0 in
+          let p = n - log_key b 0 in
           let in_it : p < length ss = omega arith in
           let from : k ≤ p = omega arith in
           record {
@@ -74,13 +74,13 @@ above_exact ss b m k n g c e =
             setter = get_or ss p a_setter;
             at = at_index ss p a_setter in_it;
             unknown = c.above p a_setter from in_it;
-            number = omega arith;
+            key = omega arith;
           },
       λ h.
           let w = from_index ss h.index h.setter h.at in
           let l = w.0 in
           let from : k ≤ h.index = not_below h.index h.setter w.1 h.unknown in
-          let f = h.number in
+          let f = h.key in
           subst (λ z. Contains z n) (sym e) (r.1 (omega arith, omega arith)),
     )
   where
@@ -93,13 +93,13 @@ above_exact ss b m k n g c e =
 -- ---- site by site
 
 pub unknown_more : (ls : List (List Setter)) (t : Attr) (past : Clock) (m j n : ℕ) → j ≡ m + 1
-    → IsUnknown ls t past j n ↔ (IsUnknown ls t past m n ⊎ IsNumberAbove (setters ls t m)
+    → IsUnknown ls t past j n ↔ (IsUnknown ls t past m n ⊎ IsKeyAbove (setters ls t m)
     (log_of t m) (entry past (m + 1)) n)
 unknown_more ls t past m j n e = (
   λ h. let w = h.within in elim (cases_lt h.site m) [
     | inl l ↦ inl (record { site = h.site; within = l; setter = h.setter })
     | inr l ↦ let same : h.site ≡ m = omega arith in
-        inr (subst (λ z. IsNumberAbove (setters ls t z) (log_of t z) (entry past (z + 1))
+        inr (subst (λ z. IsKeyAbove (setters ls t z) (log_of t z) (entry past (z + 1))
         n) same h.setter)
   ],
   λ h. elim h [
@@ -158,12 +158,12 @@ setters_push ss qs s e a f z b = subst AreSetters (sym e) (record {
     ]
 
 pub above_result : {B : Type 0} (r : Result (List ℕ) B) (ss : List Setter) (b m k l u v : ℕ)
-    → IsCountUpTo ss m k → l ≡ length ss → u ≡ log_number b k → v ≡ log_number b l
+    → IsCountUpTo ss m k → l ≡ length ss → u ≡ log_key b k → v ≡ log_key b l
     → IfOk r (λ g. g ≡ range_with_len u (v - u))
-    → IfOk r (λ g. (n : ℕ) → Contains g n ↔ IsNumberAbove ss b m n)
+    → IfOk r (λ g. (n : ℕ) → Contains g n ↔ IsKeyAbove ss b m n)
 above_result (Ok g) ss b m k l u v c e first end f = λ n. above_exact ss b m k n g c
-    (subst (λ z. g ≡ range_with_len (log_number b k) (z - log_number b k))
-    (end ∙ ap (log_number b) e) (subst (λ z. g ≡ range_with_len z (v - z)) first f))
+    (subst (λ z. g ≡ range_with_len (log_key b k) (z - log_key b k))
+    (end ∙ ap (log_key b) e) (subst (λ z. g ≡ range_with_len z (v - z)) first f))
 above_result (Err x) ss b m k l u v c e first end f = tt
 
 pub counted : (ss qs : List Setter) (m k : ℕ) → ss ≡ qs → k ≤ length qs
@@ -181,8 +181,8 @@ counted ss qs m k e b p = subst (λ z. IsCountUpTo z m k) (sym e) (record {
 
 -- the found ones and those of the log ss, where it has some
 pub found_more : (found more new : List ℕ) (ss : List Setter) (b m : ℕ)
-    → ((n : ℕ) → Contains more n ↔ IsNumberAbove ss b m n) → new ≡ united found more → (n : ℕ)
-    → Contains new n ↔ (Contains found n ⊎ IsNumberAbove ss b m n)
+    → ((n : ℕ) → Contains more n ↔ IsKeyAbove ss b m n) → new ≡ united found more → (n : ℕ)
+    → Contains new n ↔ (Contains found n ⊎ IsKeyAbove ss b m n)
 found_more found more new ss b m f e n = (
   λ h. elim ((Contains-united found more n).0 (subst (λ z. Contains z n) e h))
       [ inl i ↦ inl i | inr i ↦ inr ((f n).0 i) ],
@@ -191,8 +191,8 @@ found_more found more new ss b m f e n = (
 )
 
 pub found_none : (found more : List ℕ) (ss : List Setter) (b m : ℕ)
-    → ((n : ℕ) → Contains more n ↔ IsNumberAbove ss b m n) → more ≡ [] → (n : ℕ)
-    → Contains found n ↔ (Contains found n ⊎ IsNumberAbove ss b m n)
+    → ((n : ℕ) → Contains more n ↔ IsKeyAbove ss b m n) → more ≡ [] → (n : ℕ)
+    → Contains found n ↔ (Contains found n ⊎ IsKeyAbove ss b m n)
 found_none found more ss b m f e n = (
   λ h. inl h,
   λ h. elim h [
@@ -205,7 +205,7 @@ found_none found more ss b m f e n = (
 pub site_more : (ls : List (List Setter)) (t : Attr) (past : Clock) (m j f : ℕ) (found new : List ℕ)
     → j ≡ m + 1 → f ≡ attribute_index t * 8 →
     ((n : ℕ) → Contains found n ↔ IsUnknown ls t past m n) →
-    ((n : ℕ) → Contains new n ↔ (Contains found n ⊎ IsNumberAbove (get_or ls (f + m) [])
+    ((n : ℕ) → Contains new n ↔ (Contains found n ⊎ IsKeyAbove (get_or ls (f + m) [])
     (f + m) (get_or past.0 m 0) n)) →
     (n : ℕ) → Contains new n ↔ IsUnknown ls t past j n
 site_more ls t past m j f found new e g x y n =
@@ -213,10 +213,10 @@ site_more ls t past m j f found new e g x y n =
     let known : get_or past.0 m 0 ≡ entry past (m + 1) = let d : m ≡ m + 1 - 1 = omega arith in
     ap (λ k. get_or past.0 k 0) d in
     let one : Contains new n
-    ↔ (Contains found n ⊎ IsNumberAbove (setters ls t m) (log_of t m) (entry past (m + 1)) n) =
+    ↔ (Contains found n ⊎ IsKeyAbove (setters ls t m) (log_of t m) (entry past (m + 1)) n) =
     subst (λ k. Contains new n
-    ↔ (Contains found n ⊎ IsNumberAbove (setters ls t m) (log_of t m) k n)) known
-    (subst (λ k. Contains new n ↔ (Contains found n ⊎ IsNumberAbove (get_or ls k []) k
+    ↔ (Contains found n ⊎ IsKeyAbove (setters ls t m) (log_of t m) k n)) known
+    (subst (λ k. Contains new n ↔ (Contains found n ⊎ IsKeyAbove (get_or ls k []) k
     (get_or past.0 m 0) n)) at (y n)) in
     let step = unknown_more ls t past m j n e in (
       λ h. step.1 (elim (one.0 h) [ inl i ↦ inl ((x n).0 i) | inr i ↦ inr i ]),

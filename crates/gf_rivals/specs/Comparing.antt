@@ -18,9 +18,9 @@ abbrev pub value_at : List Op → Option ℕ → Option Value
 value_at h (Some q) = op_value (slice_get h q)
 value_at h None = None
 
--- the setter with the number n gives the value v
-abbrev pub number_gives : List Op → List (List Setter) → Value → ℕ → Bool
-number_gives h ls v n = is_value (value_at h (position_of ls n)) v
+-- the setter with the key n gives the value v
+abbrev pub key_gives : List Op → List (List Setter) → Value → ℕ → Bool
+key_gives h ls v n = is_value (value_at h (position_of ls n)) v
 
 -- new has what old has, and x if P holds
 abbrev pub AddsIf : Type 0 → ℕ → List ℕ → List ℕ → Type 0

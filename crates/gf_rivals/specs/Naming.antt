@@ -6,8 +6,8 @@ use Rattle.gf_ops.specs.declared.op.OpId.{OpId}
 use Rattle.gf_ops.specs.declared.op.ObjectId.{ObjectId}
 use Rattle.gf_ops.specs.Attribute.{object_of}
 use Rattle.gf_rivals.specs.declared.log.Setter.{Setter}
-use Rattle.gf_rivals.specs.SetterIndexes.{number_of}
-use Rattle.gf_rivals.specs.Rivals.{IsNumber, AreLogsOf}
+use Rattle.gf_rivals.specs.SetterIndexes.{key_of}
+use Rattle.gf_rivals.specs.Rivals.{IsKey, AreLogsOf}
 
 -- the setter at the index p has the number m at its site
 pub record HasSeq (ss : List Setter) (m p : ℕ) : Type 0 where
@@ -15,17 +15,17 @@ pub record HasSeq (ss : List Setter) (m p : ℕ) : Type 0 where
   pub at : slice_get ss p ≡ Some setter
   pub seq : setter.seq ≡ m
 
--- n is the number of the setter of log k that has the number m at its site
-pub record IsSetterNumber (ls : List (List Setter)) (k m n : ℕ) : Type 0 where
+-- n is the key of the setter of log k that has the number m at its site
+pub record IsSetterKey (ls : List (List Setter)) (k m n : ℕ) : Type 0 where
   pub index : ℕ
   pub setter : HasSeq (slice_index_or ls k []) m index
-  pub number : n ≡ number_of (record { log = k; index = index })
+  pub key : n ≡ key_of (record { log = k; index = index })
 
--- n is the number of the setter with the id
+-- n is the key of the setter with the id
 pub record IsNamed (h : List Op) (ls : List (List Setter)) (id : OpId) (n : ℕ) : Type 0 where
   pub position : ℕ
   pub op : Op
-  pub number : IsNumber ls n position
+  pub key : IsKey ls n position
   pub at : slice_get h position ≡ Some op
   pub named : op.id ≡ id
 
@@ -35,6 +35,6 @@ pub record IsNamedOn (h : List Op) (ls : List (List Setter)) (id : OpId) : Type 
   pub logs : AreLogsOf h object ls
   pub on : (b : Op) → Contains h b → b.id ≡ id → object_of b ≡ object
 
--- new has what old has, and the number of the setter with the id
+-- new has what old has, and the key of the setter with the id
 abbrev pub AddsNamed : List Op → List (List Setter) → OpId → List ℕ → List ℕ → Type 0
 AddsNamed h ls id old new = (n : ℕ) → Contains new n ↔ (Contains old n ⊎ IsNamed h ls id n)

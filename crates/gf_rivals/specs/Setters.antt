@@ -2,7 +2,7 @@
 use Rattle.std.specs.Prelude.{◌≡◌, ℕ, ◌^◌, ◌<◌, ◌≤◌, List, Some, slice_get}
 use Rattle.std.specs.Prelude.{slice_index_or, length}
 use Rattle.gf_rivals.specs.declared.log.Setter.{Setter}
-use Rattle.gf_rivals.specs.SetterIndexes.{number_of}
+use Rattle.gf_rivals.specs.SetterIndexes.{key_of}
 
 -- the numbers of the setters at their site rise, from 1 on
 pub record AreSetters (ss : List Setter) : Type 0 where
@@ -18,10 +18,10 @@ pub record IsCountUpTo (ss : List Setter) (m k : ℕ) : Type 0 where
   pub above : (i : ℕ) (d : Setter) → k ≤ i → i < length ss
       → m < (slice_index_or ss i d).seq
 
--- ss are the setters of log k, and n is the number of one that is above m at its site
-pub record IsNumberAbove (ss : List Setter) (k m n : ℕ) : Type 0 where
+-- ss are the setters of log k, and n is the key of one that is above m at its site
+pub record IsKeyAbove (ss : List Setter) (k m n : ℕ) : Type 0 where
   pub index : ℕ
   pub setter : Setter
   pub at : slice_get ss index ≡ Some setter
   pub unknown : m < setter.seq
-  pub number : n ≡ number_of (record { log = k; index = index })
+  pub key : n ≡ key_of (record { log = k; index = index })

@@ -1,9 +1,9 @@
-//! The operations that aim at others, and the numbers of what they aim at.
+//! The operations that aim at others, and the keys of what they aim at.
 
 ghost use Rattle.std.specs.Prelude.{◌≡◌, ◌↔◌, ◌⊎◌, ◌+◌, ◌^◌, ◌<◌, true, Contains, Some};
 ghost use Rattle.std.specs.Prelude.{IfOk, IfSome, OnOk};
 ghost use Rattle.gf_maximal.specs.Growing.{intersects};
-ghost use Rattle.gf_rivals.specs.Aimed.{AreNumbersOf, AimsAtOne};
+ghost use Rattle.gf_rivals.specs.Aimed.{AreKeysOf, AimsAtOne};
 ghost use Rattle.gf_rivals.specs.Comparing.{AddsIf};
 ghost use Rattle.gf_rivals.specs.Naming.{AddsNamed, IsNamed, IsNamedOn};
 
@@ -14,10 +14,10 @@ use gf_shape::OutOfMemory;
 use std::alloc::Global;
 use std::marker::Model;
 
-/// An operation that aims at others: its number, and the numbers of the setters that it aims at.
+/// An operation that aims at others: its key, and the keys of the setters that it aims at.
 #[derive(Debug, Drop)]
 pub struct Aimed {
-    number: usize,
+    key: usize,
     aim: Numbers,
 }
 
@@ -27,18 +27,18 @@ impl Model for Aimed {
 
     ghost Value = { AimedState };
 
-    ghost view = { λ a. record { number = a.number; aim = a.aim } };
+    ghost view = { λ a. record { key = a.key; aim = a.aim } };
 
-    ghost invariant = { λ a. a.number + 1 < 2 ^ 64 };
+    ghost invariant = { λ a. a.key + 1 < 2 ^ 64 };
 }
 
 impl Aimed {
-    /// The operation with this number, which aims at the setters with these numbers.
-    pub fn new(number: usize, aim: Numbers) -> Aimed
-        requires { number + 1 < 2 ^ 64 }
-        ensures { result ≡ record { number = number; aim = aim } }
+    /// The operation with this key, which aims at the setters with these keys.
+    pub fn new(key: usize, aim: Numbers) -> Aimed
+        requires { key + 1 < 2 ^ 64 }
+        ensures { result ≡ record { key = key; aim = aim } }
     {
-        Aimed { number, aim }
+        Aimed { key, aim }
     }
 
     /// A copy of the operation.
@@ -46,42 +46,42 @@ impl Aimed {
         ensures { IfOk result (λ copy. copy ≡ self.now) }
     {
         Ok(Aimed {
-            number: self.number,
+            key: self.key,
             aim: self.aim.copy(alloc)?,
         })
     }
 
-    /// Adds the number of the operation, if it aims at one of the others.
+    /// Adds the key of the operation, if it aims at one of the others.
     fn join_to(&self, others: &Numbers, found: &mut Numbers) -> Result<(), OutOfMemory>
         ensures { OnOk result
-            (AddsIf (intersects self.now.aim others.now ≡ true) self.now.number
+            (AddsIf (intersects self.now.aim others.now ≡ true) self.now.key
             found.old found.new) }
     {
         if self.aim.intersects(others) {
-            found.join(self.number)
+            found.join(self.key)
         } else {
             Ok(())
         }
     }
 }
 
-/// The numbers, with those of the operations that aim at one of them.
-pub fn with_aimed(alloc: Global, numbers: Numbers, aimed: &[Aimed]) -> Result<Numbers, OutOfMemory>
+/// The keys, with those of the operations that aim at one of them.
+pub fn with_aimed(alloc: Global, keys: Numbers, aimed: &[Aimed]) -> Result<Numbers, OutOfMemory>
     ensures { IfOk result (λ found. (n : _)
-        → Contains found n ↔ (Contains numbers n ⊎ AimsAtOne aimed.now numbers n)) }
+        → Contains found n ↔ (Contains keys n ⊎ AimsAtOne aimed.now keys n)) }
 {
     if aimed.is_empty() {
-        return Ok(numbers);
+        return Ok(keys);
     }
-    let mut found = numbers.copy(alloc)?;
+    let mut found = keys.copy(alloc)?;
     for operation in aimed {
-        operation.join_to(&numbers, &mut found)?;
+        operation.join_to(&keys, &mut found)?;
     }
     Ok(found)
 }
 
-/// The number of the setter that has this id; none where it makes an object, or is not there.
-fn number_of(history: &History, logs: &Logs, id: OpId) -> Option<usize>
+/// The key of the setter that has this id; none where it makes an object, or is not there.
+fn key_of(history: &History, logs: &Logs, id: OpId) -> Option<usize>
     requires { IsNamedOn history.now.ops logs.now id }
     ensures some { IfSome result (λ n. IsNamed history.now.ops logs.now id n) }
     ensures all { (n : _) → IsNamed history.now.ops logs.now id n → result ≡ Some n }
@@ -92,39 +92,39 @@ fn number_of(history: &History, logs: &Logs, id: OpId) -> Option<usize>
     let op = history.get(id)?;
     match &op.change {
         Change::Create(_) => None,
-        Change::Set { value, .. } => logs.number(value.attribute(), id),
+        Change::Set { value, .. } => Some(logs.setter(value.attribute(), id)?.key()),
     }
 }
 
-/// Adds the number of the setter that has this id.
+/// Adds the key of the setter that has this id.
 fn add_named(
     history: &History,
     logs: &Logs,
     id: OpId,
-    numbers: &mut Numbers,
+    keys: &mut Numbers,
 ) -> Result<(), OutOfMemory>
     requires { IsNamedOn history.now.ops logs.now id }
-    ensures { OnOk result (AddsNamed history.now.ops logs.now id numbers.old numbers.new) }
+    ensures { OnOk result (AddsNamed history.now.ops logs.now id keys.old keys.new) }
 {
-    match number_of(history, logs, id) {
-        Some(number) => numbers.join(number),
+    match key_of(history, logs, id) {
+        Some(key) => keys.join(key),
         None => Ok(()),
     }
 }
 
-/// The numbers of the setters that have these ids.
-pub fn numbers_of(
+/// The keys of the setters that have these ids.
+pub fn keys_of(
     alloc: Global,
     history: &History,
     logs: &Logs,
     ids: &[OpId],
 ) -> Result<Numbers, OutOfMemory>
     requires { (id : _) → Contains ids.now id → IsNamedOn history.now.ops logs.now id }
-    ensures { IfOk result (λ found. AreNumbersOf history.now.ops logs.now ids.now found) }
+    ensures { IfOk result (λ found. AreKeysOf history.now.ops logs.now ids.now found) }
 {
-    let mut numbers = Numbers::new(alloc);
+    let mut keys = Numbers::new(alloc);
     for id in ids {
-        add_named(history, logs, *id, &mut numbers)?;
+        add_named(history, logs, *id, &mut keys)?;
     }
-    Ok(numbers)
+    Ok(keys)
 }

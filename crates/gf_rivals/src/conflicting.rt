@@ -3,12 +3,12 @@
 ghost use Rattle.std.specs.Prelude.{◌≡◌, ◌↔◌, true, Contains, IfOk, OnOk};
 ghost use Rattle.gf_ops.specs.Attribute.{attribute_of};
 ghost use Rattle.gf_rivals.specs.Logs.{IsUnknown};
-ghost use Rattle.gf_rivals.specs.Comparing.{number_gives, AddsIf};
+ghost use Rattle.gf_rivals.specs.Comparing.{key_gives, AddsIf};
 ghost use Rattle.gf_rivals.specs.Indexes.{IsIndex};
 ghost use Rattle.gf_rivals.specs.Rivals.{AreLogsOf, AreRivals};
 
 use crate::fingerprint::{fingerprint_of, has_own_fingerprint};
-use crate::giving::number_gives;
+use crate::giving::key_gives;
 use crate::index::Index;
 use crate::logs::Logs;
 use gf_maximal::Numbers;
@@ -16,45 +16,45 @@ use gf_ops::{History, Op, Value};
 use gf_shape::OutOfMemory;
 use std::alloc::Global;
 
-/// Adds the number, if its setter gives the value.
+/// Adds the key, if its setter gives the value.
 fn add_giving(
     ops: &[Op],
     logs: &Logs,
     value: &Value,
-    number: usize,
+    key: usize,
     some: &mut Numbers,
 ) -> Result<(), OutOfMemory>
     ensures { OnOk result
-        (AddsIf (number_gives ops.now logs.now value.now number ≡ true) number
+        (AddsIf (key_gives ops.now logs.now value.now key ≡ true) key
         some.old some.new) }
 {
-    if number_gives(ops, logs, value, number) {
-        some.join(number)
+    if key_gives(ops, logs, value, key) {
+        some.join(key)
     } else {
         Ok(())
     }
 }
 
-/// The numbers whose setters give the value.
+/// The keys whose setters give the value.
 fn giving(
     alloc: Global,
     ops: &[Op],
     logs: &Logs,
     value: &Value,
-    numbers: &Numbers,
+    keys: &Numbers,
 ) -> Result<Numbers, OutOfMemory>
     ensures { IfOk result (λ some. (n : _) → Contains some n
-        ↔ (Contains numbers.now n × (number_gives ops.now logs.now value.now n ≡ true))) }
+        ↔ (Contains keys.now n × (key_gives ops.now logs.now value.now n ≡ true))) }
 {
-    let all = numbers.to_vec(alloc)?;
+    let all = keys.to_vec(alloc)?;
     let mut some = Numbers::new(alloc);
-    for number in &all {
-        add_giving(ops, logs, value, *number, &mut some)?;
+    for key in &all {
+        add_giving(ops, logs, value, *key, &mut some)?;
     }
     Ok(some)
 }
 
-/// The rivals of the next operation of an object: the numbers of unknown setters that give another
+/// The rivals of the next operation of an object: the keys of unknown setters that give another
 /// value. Only lists of points are compared in the history, and only with those that begin alike.
 pub fn rivals(
     alloc: Global,

@@ -2,11 +2,12 @@
 
 ghost use Rattle.std.specs.Prelude.{◌≡◌, ◌*◌, ◌<◌, IsTrue, option_copied};
 ghost use Rattle.gf_ops.specs.ConflictTests.{value_eq};
-ghost use Rattle.gf_rivals.specs.Comparing.{is_value, number_gives};
+ghost use Rattle.gf_rivals.specs.Comparing.{is_value, key_gives};
 ghost use Rattle.gf_rivals.specs.Giving.{op_value};
 ghost use Rattle.gf_rivals.specs.declared.setter_index.TheConstants.{FIRST_ABOVE};
 
 use crate::logs::Logs;
+use crate::setter_index::SetterIndex;
 use gf_ops::{Change, Op, Value};
 
 /// Whether two values are one value of one attribute.
@@ -47,12 +48,12 @@ fn is_value(value: Option<&Value>, other: &Value) -> bool
     }
 }
 
-/// Whether the setter with this number gives the value.
-pub(crate) fn number_gives(ops: &[Op], logs: &Logs, value: &Value, number: usize) -> bool
-    ensures value { result ≡ number_gives ops.now logs.now value.now number }
-    ensures bound { IsTrue result → number < FIRST_ABOVE }
+/// Whether the setter with this key gives the value.
+pub(crate) fn key_gives(ops: &[Op], logs: &Logs, value: &Value, key: usize) -> bool
+    ensures value { result ≡ key_gives ops.now logs.now value.now key }
+    ensures bound { IsTrue result → key < FIRST_ABOVE }
 {
-    match logs.position(number) {
+    match logs.position(SetterIndex::of(key)) {
         Some(position) => is_value(op_value(ops.get(position)), value),
         None => false,
     }

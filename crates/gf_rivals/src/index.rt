@@ -1,4 +1,4 @@
-//! The numbers of the setters of an object by their values.
+//! The keys of the setters of an object by their values.
 
 ghost use Rattle.std.specs.Prelude.{◌≡◌, ◌+◌, ◌^◌, ◌<◌, IfOk, IfSome, OnOk, option_copied};
 ghost use Rattle.std.specs.Prelude.{length, slice_get};
@@ -6,7 +6,7 @@ ghost use Rattle.std.specs.BTreeMap.{insert_entry, is_at};
 ghost use Rattle.std.specs.Map.{lookup};
 ghost use Rattle.gf_rivals.specs.Fingerprints.{fingerprint_cmp, fingerprint_of};
 ghost use Rattle.gf_rivals.specs.Giving.{op_value, fingerprint_given};
-ghost use Rattle.gf_rivals.specs.Indexes.{IsIndex, PutsNumber, PutsNumbers};
+ghost use Rattle.gf_rivals.specs.Indexes.{IsIndex, PutsKey, PutsKeys};
 ghost use Rattle.gf_rivals.specs.Indexing.{PutsGiven, Lists, ListsLog};
 ghost use Rattle.gf_rivals.specs.declared.logs.TheConstants.{LOGS};
 
@@ -22,13 +22,13 @@ use std::alloc::Global;
 use std::collections::BTreeMap;
 use std::marker::Model;
 
-type NumbersByFingerprint = BTreeMap<Fingerprint, Numbers>;
+type KeysByFingerprint = BTreeMap<Fingerprint, Numbers>;
 
-/// For each fingerprint of a value the numbers of the setters with such a value, none without a
+/// For each fingerprint of a value the keys of the setters with such a value, none without a
 /// setter. An index can always be made again from the history and the logs.
 #[derive(Debug, Drop)]
 pub struct Index {
-    numbers: NumbersByFingerprint,
+    keys: KeysByFingerprint,
 }
 
 impl Model for Index {
@@ -36,7 +36,7 @@ impl Model for Index {
 
     ghost Value = { Entries };
 
-    ghost view = { λ i. i.numbers.entries };
+    ghost view = { λ i. i.keys.entries };
 }
 
 /// The fingerprint of the value that is set at a position, if there is one.
@@ -47,55 +47,55 @@ fn fingerprint_at(ops: &[Op], position: usize) -> Option<Fingerprint>
     Some(fingerprint_of(value))
 }
 
-/// Adds a number under a fingerprint.
-fn add_number(
+/// Adds a key under a fingerprint.
+fn add_key(
     alloc: Global,
-    numbers: &mut NumbersByFingerprint,
+    keys: &mut KeysByFingerprint,
     fingerprint: Fingerprint,
-    number: usize,
+    key: usize,
 ) -> Result<(), OutOfMemory>
-    requires { number + 1 < 2 ^ 64 }
-    ensures { OnOk result (PutsNumber numbers.old.entries fingerprint number numbers.new.entries) }
+    requires { key + 1 < 2 ^ 64 }
+    ensures { OnOk result (PutsKey keys.old.entries fingerprint key keys.new.entries) }
 {
-    if let Some(some) = numbers.get_mut(&fingerprint) {
-        return some.join(number);
+    if let Some(some) = keys.get_mut(&fingerprint) {
+        return some.join(key);
     }
     let mut some = Numbers::new(alloc);
-    some.join(number)?;
-    put(numbers, fingerprint, some)
+    some.join(key)?;
+    put(keys, fingerprint, some)
 }
 
-/// Puts the numbers under the fingerprint.
+/// Puts the keys under the fingerprint.
 fn put(
-    numbers: &mut NumbersByFingerprint,
+    keys: &mut KeysByFingerprint,
     fingerprint: Fingerprint,
     some: Numbers,
 ) -> Result<(), OutOfMemory>
     ensures puts { OnOk result
-        (PutsNumbers numbers.old.entries fingerprint some numbers.new.entries) }
-    ensures entries { OnOk result (numbers.new.entries
-        ≡ insert_entry fingerprint_cmp numbers.old.entries fingerprint some) }
+        (PutsKeys keys.old.entries fingerprint some keys.new.entries) }
+    ensures entries { OnOk result (keys.new.entries
+        ≡ insert_entry fingerprint_cmp keys.old.entries fingerprint some) }
 {
-    match numbers.insert(fingerprint, some) {
+    match keys.insert(fingerprint, some) {
         Ok(_) => Ok(()),
         Err(_) => Err(OutOfMemory),
     }
 }
 
-/// Adds the number of the setter that stands at a position.
+/// Adds the key of the setter that stands at a position.
 fn add_setter(
     alloc: Global,
     ops: &[Op],
     position: usize,
-    number: usize,
-    numbers: &mut NumbersByFingerprint,
+    key: usize,
+    keys: &mut KeysByFingerprint,
 ) -> Result<(), OutOfMemory>
-    requires { number + 1 < 2 ^ 64 }
-    ensures { OnOk result (PutsGiven numbers.old.entries
-        (fingerprint_given (op_value (slice_get ops.now position))) number numbers.new.entries) }
+    requires { key + 1 < 2 ^ 64 }
+    ensures { OnOk result (PutsGiven keys.old.entries
+        (fingerprint_given (op_value (slice_get ops.now position))) key keys.new.entries) }
 {
     match fingerprint_at(ops, position) {
-        Some(fingerprint) => add_number(alloc, numbers, fingerprint, number),
+        Some(fingerprint) => add_key(alloc, keys, fingerprint, key),
         None => Ok(()),
     }
 }
@@ -106,16 +106,16 @@ fn add_setters(
     ops: &[Op],
     setters: &[Setter],
     log: usize,
-    numbers: &mut NumbersByFingerprint,
+    keys: &mut KeysByFingerprint,
 ) -> Result<(), OutOfMemory>
     requires log { log < LOGS }
     requires short { length setters.now < 2 ^ 32 }
     ensures { OnOk result (Lists ops.now setters.now log (length setters.now)
-        numbers.old.entries numbers.new.entries) }
+        keys.old.entries keys.new.entries) }
 {
     for (index, setter) in setters.iter().enumerate() {
-        let number = SetterIndex { log, index }.number();
-        add_setter(alloc, ops, setter.position, number, numbers)?;
+        let key = SetterIndex { log, index }.key();
+        add_setter(alloc, ops, setter.position, key, keys)?;
     }
     Ok(())
 }
@@ -126,14 +126,14 @@ fn add_log(
     ops: &[Op],
     logs: &Logs,
     index: usize,
-    numbers: &mut NumbersByFingerprint,
+    keys: &mut KeysByFingerprint,
 ) -> Result<(), OutOfMemory>
     requires { index < LOGS }
     ensures { OnOk result
-        (ListsLog ops.now logs.now index numbers.old.entries numbers.new.entries) }
+        (ListsLog ops.now logs.now index keys.old.entries keys.new.entries) }
 {
     match logs.log(index) {
-        Some(log) => add_setters(alloc, ops, log.setters(), index, numbers),
+        Some(log) => add_setters(alloc, ops, log.setters(), index, keys),
         None => Ok(()),
     }
 }
@@ -144,21 +144,21 @@ impl Index {
         ensures { IfOk result (λ index. IsIndex history.now.ops logs.now index) }
     {
         let ops = history.ops();
-        let mut numbers = BTreeMap::new(alloc);
+        let mut keys = BTreeMap::new(alloc);
         for index in 0..LOGS {
-            add_log(alloc, ops, logs, index, &mut numbers)?;
+            add_log(alloc, ops, logs, index, &mut keys)?;
         }
-        Ok(Index { numbers })
+        Ok(Index { keys })
     }
 
     /// The index with one more setter. Where memory is refused there is no index.
-    pub fn with(self, alloc: Global, value: &Value, number: usize) -> Option<Index>
-        requires { number + 1 < 2 ^ 64 }
-        ensures { IfSome result (λ index. PutsNumber self (fingerprint_of value.now) number index) }
+    pub fn with(self, alloc: Global, value: &Value, key: usize) -> Option<Index>
+        requires { key + 1 < 2 ^ 64 }
+        ensures { IfSome result (λ index. PutsKey self (fingerprint_of value.now) key index) }
     {
-        let mut numbers = self.numbers;
-        match add_number(alloc, &mut numbers, fingerprint_of(value), number) {
-            Ok(()) => Some(Index { numbers }),
+        let mut keys = self.keys;
+        match add_key(alloc, &mut keys, fingerprint_of(value), key) {
+            Ok(()) => Some(Index { keys }),
             Err(OutOfMemory) => None,
         }
     }
@@ -167,18 +167,18 @@ impl Index {
     pub fn copy(&self, alloc: Global) -> Result<Index, OutOfMemory>
         ensures { IfOk result (λ copy. copy ≡ self.now) }
     {
-        let mut numbers = BTreeMap::new(alloc);
-        for (fingerprint, some) in &self.numbers {
+        let mut keys = BTreeMap::new(alloc);
+        for (fingerprint, some) in &self.keys {
             let some = some.copy(alloc)?;
-            put(&mut numbers, *fingerprint, some)?;
+            put(&mut keys, *fingerprint, some)?;
         }
-        Ok(Index { numbers })
+        Ok(Index { keys })
     }
 
-    /// The numbers of the setters whose value has this fingerprint.
+    /// The keys of the setters whose value has this fingerprint.
     pub(crate) fn get(&self, fingerprint: Fingerprint) -> Option<&Numbers>
         ensures { option_copied result ≡ lookup (is_at (fingerprint_cmp fingerprint)) self.now }
     {
-        self.numbers.get(&fingerprint)
+        self.keys.get(&fingerprint)
     }
 }

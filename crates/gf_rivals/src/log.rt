@@ -4,7 +4,7 @@ ghost use Rattle.std.specs.Prelude.{◌≡◌, ◌↔◌, ◌++◌, ◌∷◌, [
 ghost use Rattle.std.specs.Prelude.{IfOk, IfSome, OnOk, OnErr, Some};
 ghost use Rattle.gf_rivals.specs.Naming.{HasSeq};
 ghost use Rattle.std.specs.Prelude.{option_copied, slice_get, slice_index_or, length};
-ghost use Rattle.gf_rivals.specs.Setters.{IsCountUpTo, IsNumberAbove};
+ghost use Rattle.gf_rivals.specs.Setters.{IsCountUpTo, IsKeyAbove};
 ghost use Rattle.gf_rivals.specs.declared.logs.TheConstants.{LOGS};
 
 use crate::setter_index::SetterIndex;
@@ -90,18 +90,18 @@ impl Log {
         if setter.seq == seq { Some(index) } else { None }
     }
 
-    /// The numbers of the setters whose number at their site is above this one, where the log has
+    /// The keys of the setters whose number at their site is above this one, where the log has
     /// this index.
     pub fn unknown(&self, alloc: Global, log: usize, count: u32) -> Result<Numbers, OutOfMemory>
         requires { log < LOGS }
         ensures { IfOk result (λ found. (n : _)
-            → Contains found n ↔ IsNumberAbove self.now log count n) }
+            → Contains found n ↔ IsKeyAbove self.now log count n) }
     {
         let len = self.len();
         let known = self.count_up_to(count);
         let first = SetterIndex { log, index: known };
         let end = SetterIndex { log, index: len };
-        Numbers::between(alloc, first.number(), end.number())
+        Numbers::between(alloc, first.key(), end.key())
     }
 
     /// Adds a setter behind the others, which have smaller numbers at their site.

@@ -5,13 +5,13 @@ ghost use Rattle.std.specs.Prelude.{◌∷◌, []};
 ghost use Rattle.std.specs.Prelude.{Contains, IfOk, IfSome, OnOk, OnErr, length, slice_index_or};
 ghost use Rattle.std.specs.Prelude.{Some, option_copied, unwrap_or};
 ghost use Rattle.gf_rivals.specs.Members.{IsFirstUnknown};
-ghost use Rattle.gf_rivals.specs.Naming.{IsSetterNumber};
+ghost use Rattle.gf_rivals.specs.Naming.{HasSeq};
 ghost use Rattle.gf_ops.specs.OperationOrder.{IsSite, entry};
 ghost use Rattle.gf_ops.specs.ValidHistory.{IsWithin};
-ghost use Rattle.gf_rivals.specs.SetterIndexes.{HasNumber, number_of};
-ghost use Rattle.gf_rivals.specs.Setters.{IsNumberAbove};
+ghost use Rattle.gf_rivals.specs.SetterIndexes.{HasKey};
+ghost use Rattle.gf_rivals.specs.Setters.{IsKeyAbove};
 ghost use Rattle.gf_rivals.specs.Logs.{log_of, setters, no_logs};
-ghost use Rattle.gf_rivals.specs.Logs.{position_of};
+ghost use Rattle.gf_rivals.specs.Logs.{position_at};
 ghost use Rattle.gf_rivals.specs.Logs.{with_setter, with_log, IsUnknown};
 ghost use Rattle.gf_rivals.specs.declared.logs.TheConstants.{LOGS};
 ghost use Rattle.gf_rivals.specs.declared.setter_index.TheConstants.{FIRST_ABOVE};
@@ -104,7 +104,7 @@ impl Logs {
         self.logs.get(&index)
     }
 
-    /// The numbers found, with those of one log's setters whose number at their site is above
+    /// The keys found, with those of one log's setters whose number at their site is above
     /// this one.
     fn with_unknown(
         &self,
@@ -115,7 +115,7 @@ impl Logs {
     ) -> Result<Numbers, OutOfMemory>
         requires { log < LOGS }
         ensures { let ss = slice_index_or self.now log [] in IfOk result (λ all. (n : _)
-            → Contains all n ↔ (Contains found n ⊎ IsNumberAbove ss log count n)) }
+            → Contains all n ↔ (Contains found n ⊎ IsKeyAbove ss log count n)) }
     {
         let Some(setters) = self.log(log) else {
             return Ok(found);
@@ -127,7 +127,7 @@ impl Logs {
         found.united(alloc, &more)
     }
 
-    /// The numbers of the setters of the attribute that the clock does not count. A clock that
+    /// The keys of the setters of the attribute that the clock does not count. A clock that
     /// counts all setters is compared once.
     pub fn unknown(
         &self,
@@ -154,7 +154,7 @@ impl Logs {
     pub(crate) fn first_unknown(&self, attribute: Attr, site: usize, past: &Clock) -> SetterIndex
         requires { site < 8 }
         ensures first { IsFirstUnknown self.now attribute site past.now result }
-        ensures number { HasNumber result }
+        ensures key { HasKey result }
     {
         let log = attribute.index() * 8 + site;
         match self.log(log) {
@@ -166,46 +166,46 @@ impl Logs {
         }
     }
 
-    /// The position of the setter that has this number.
-    pub fn position(&self, number: usize) -> Option<usize>
-        ensures value { result ≡ position_of self.now number }
-        ensures bound { IfSome result (λ _. number < FIRST_ABOVE) }
+    /// The position of the setter.
+    pub fn position(&self, setter: SetterIndex) -> Option<usize>
+        ensures value { result ≡ position_at self.now setter }
+        ensures bound { IfSome result (λ _. setter.log < LOGS) }
     {
-        let SetterIndex { log, index } = SetterIndex::of(number);
-        let setter = self.log(log)?.get(index)?;
+        let setter = self.log(setter.log)?.get(setter.index)?;
         Some(setter.position)
     }
 
-    /// The number of the setter of the attribute that has this id.
-    pub(crate) fn number(&self, attribute: Attr, id: OpId) -> Option<usize>
+    /// The setter of the attribute that has this id.
+    pub(crate) fn setter(&self, attribute: Attr, id: OpId) -> Option<SetterIndex>
         requires { IsSite id.site }
-        ensures some { IfSome result (λ n.
-            IsSetterNumber self.now (log_of attribute (id.site - 1)) id.seq n) }
-        ensures all { (n : _) → IsSetterNumber self.now (log_of attribute (id.site - 1)) id.seq n
-            → result ≡ Some n }
-        ensures bound { IfSome result (λ n. n + 1 < 2 ^ 64) }
+        ensures log { IfSome result (λ i. i.log ≡ log_of attribute (id.site - 1)) }
+        ensures some { IfSome result (λ i.
+            HasSeq (setters self.now attribute (id.site - 1)) id.seq i.index) }
+        ensures all { (p : _) → HasSeq (setters self.now attribute (id.site - 1)) id.seq p
+            → result ≡ Some (record { log = log_of attribute (id.site - 1); index = p }) }
+        ensures key { IfSome result HasKey }
     {
         let log = log_of(attribute, id.site);
         let index = self.log(log)?.index(id.seq)?;
-        Some(SetterIndex { log, index }.number())
+        Some(SetterIndex { log, index })
     }
 
-    /// The number that the next setter of the attribute by the site will have.
-    pub fn next_number(&self, attribute: Attr, site: u8) -> usize
+    /// Which setter the next one of the attribute by the site will be.
+    pub fn next(&self, attribute: Attr, site: u8) -> SetterIndex
         requires { IsSite site }
-        ensures value { result ≡ number_of (record {
+        ensures value { result ≡ record {
           log = log_of attribute (site - 1);
           index = length (setters self.now attribute (site - 1));
-        }) }
-        ensures bound { result + 1 < 2 ^ 64 }
+        } }
+        ensures key { HasKey result }
     {
         let log = log_of(attribute, site);
         match self.log(log) {
-            Some(setters) => {
-                let index = setters.len();
-                SetterIndex { log, index }.number()
-            }
-            None => SetterIndex { log, index: 0 }.number(),
+            Some(setters) => SetterIndex {
+                log,
+                index: setters.len(),
+            },
+            None => SetterIndex { log, index: 0 },
         }
     }
 

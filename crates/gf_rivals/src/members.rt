@@ -9,10 +9,10 @@ ghost use Rattle.gf_rivals.specs.Comparing.{AddsIf};
 ghost use Rattle.gf_rivals.specs.Members.{AreFalling, AreMembers, AreMembersOf, CanConflict};
 ghost use Rattle.gf_rivals.specs.Members.{IsOfLog, IsOther, ListsSetters, value_of};
 ghost use Rattle.gf_rivals.specs.Rivals.{AreLogsOf};
-ghost use Rattle.gf_rivals.specs.SetterIndexes.{HasNumber};
+ghost use Rattle.gf_rivals.specs.SetterIndexes.{HasKey};
 ghost use Rattle.gf_rivals.specs.declared.setter_index.TheConstants.{FIRST_ABOVE};
 
-use crate::giving::{number_gives, op_value};
+use crate::giving::{key_gives, op_value};
 use crate::logs::Logs;
 use crate::setter_index::SetterIndex;
 use gf_maximal::Numbers;
@@ -20,84 +20,84 @@ use gf_ops::{History, Op, Value, direct_conflict};
 use gf_shape::OutOfMemory;
 use std::alloc::Global;
 
-/// A setter by its number, and the next one of its log that gives another value.
+/// A setter by its key, and the next one of its log that gives another value.
 #[derive(Clone, Copy, Debug)]
 struct Member {
-    number: usize,
+    key: usize,
     other: Option<usize>,
 }
 
-/// The setter that has this number.
-fn op_of<'a>(history: &'a History, logs: &Logs, number: usize) -> Option<&'a Op>
-    ensures value { option_copied result ≡ op_of history.now.ops logs.now number }
+/// The setter that has this key.
+fn op_of<'a>(history: &'a History, logs: &Logs, key: usize) -> Option<&'a Op>
+    ensures value { option_copied result ≡ op_of history.now.ops logs.now key }
     ensures in_range { IfSome result (λ op. IsInRange op.now) }
-    ensures bound { IfSome result (λ _. number < FIRST_ABOVE) }
+    ensures bound { IfSome result (λ _. key < FIRST_ABOVE) }
 {
-    let position = logs.position(number)?;
+    let position = logs.position(SetterIndex::of(key))?;
     history.ops().get(position)
 }
 
-/// Whether the setters with these numbers conflict directly.
-fn conflict(history: &History, logs: &Logs, number: usize, other: usize) -> bool
-    ensures value { IsTrue result ↔ ConflictDirectly history.now.ops logs.now number other }
+/// Whether the setters with these keys conflict directly.
+fn conflict(history: &History, logs: &Logs, key: usize, other: usize) -> bool
+    ensures value { IsTrue result ↔ ConflictDirectly history.now.ops logs.now key other }
     ensures bound { IsTrue result → other < FIRST_ABOVE }
 {
-    match (op_of(history, logs, number), op_of(history, logs, other)) {
+    match (op_of(history, logs, key), op_of(history, logs, other)) {
         (Some(op), Some(other)) => direct_conflict(op, other),
         _ => false,
     }
 }
 
-/// The value of the setter with this number.
-fn value_of<'a>(history: &'a History, logs: &Logs, number: usize) -> Option<&'a Value>
-    ensures { option_copied result ≡ value_of history.now.ops logs.now number }
+/// The value of the setter with this key.
+fn value_of<'a>(history: &'a History, logs: &Logs, key: usize) -> Option<&'a Value>
+    ensures { option_copied result ≡ value_of history.now.ops logs.now key }
 {
-    op_value(op_of(history, logs, number))
+    op_value(op_of(history, logs, key))
 }
 
-/// Whether the setters with these numbers give different values.
-fn give_others(history: &History, logs: &Logs, number: usize, other: usize) -> bool
-    ensures { IsTrue result ↔ (value_of history.now.ops logs.now number
+/// Whether the setters with these keys give different values.
+fn give_others(history: &History, logs: &Logs, key: usize, other: usize) -> bool
+    ensures { IsTrue result ↔ (value_of history.now.ops logs.now key
         ≢ value_of history.now.ops logs.now other) }
 {
-    match value_of(history, logs, number) {
-        Some(value) => !number_gives(history.ops(), logs, value, other),
+    match value_of(history, logs, key) {
+        Some(value) => !key_gives(history.ops(), logs, value, other),
         None => value_of(history, logs, other).is_some(),
     }
 }
 
-/// The next setter of the log of the number that gives another value, where `next` is the next
+/// The next setter of the log of the key that gives another value, where `next` is the next
 /// member.
-fn other_of(history: &History, logs: &Logs, number: usize, next: Option<&Member>) -> Option<usize>
-    ensures { IsOther history.now.ops logs.now number (option_copied next.entry) result }
+fn other_of(history: &History, logs: &Logs, key: usize, next: Option<&Member>) -> Option<usize>
+    ensures { IsOther history.now.ops logs.now key (option_copied next.entry) result }
 {
     let next = next?;
-    if SetterIndex::of(next.number).log != SetterIndex::of(number).log {
+    if SetterIndex::of(next.key).log != SetterIndex::of(key).log {
         return None;
     }
-    if give_others(history, logs, number, next.number) {
-        Some(next.number)
+    if give_others(history, logs, key, next.key) {
+        Some(next.key)
     } else {
         next.other
     }
 }
 
-/// The setters with these rising numbers, the last one first.
+/// The setters with these rising keys, the last one first.
 fn members_of(
     alloc: Global,
     history: &History,
     logs: &Logs,
-    numbers: &[usize],
+    keys: &[usize],
 ) -> Result<Vec<Member>, OutOfMemory>
-    requires { IsRising numbers.now }
+    requires { IsRising keys.now }
     ensures { IfOk result (λ members.
-        AreMembers history.now.ops logs.now numbers.now members.items) }
+        AreMembers history.now.ops logs.now keys.now members.items) }
 {
     let mut members = Vec::new(alloc);
-    for behind in 0..numbers.len() {
-        let number = numbers[numbers.len() - 1 - behind];
-        let other = other_of(history, logs, number, members.last());
-        members.push(Member { number, other })?;
+    for behind in 0..keys.len() {
+        let key = keys[keys.len() - 1 - behind];
+        let other = other_of(history, logs, key, members.last());
+        members.push(Member { key, other })?;
     }
     Ok(members)
 }
@@ -105,17 +105,17 @@ fn members_of(
 /// The first of the members from `start` on, if it is of the same log.
 fn first_from(members: &[Member], start: SetterIndex) -> Option<&Member>
     requires members { AreFalling members.now }
-    requires start { HasNumber start }
+    requires start { HasKey start }
     ensures some { IfSome result (λ first. IsOfLog members.now start first.now) }
     ensures least { (m : _) → IsOfLog members.now start m
-        → (f : _) × (option_copied result ≡ Some f) × (f.number ≤ m.number) }
+        → (f : _) × (option_copied result ≡ Some f) × (f.key ≤ m.key) }
 {
-    let number = start.number();
+    let key = start.key();
     let index = members
-        .partition_point(|member| member.number >= number)
+        .partition_point(|member| member.key >= key)
         .checked_sub(1)?;
     let first = members.get(index)?;
-    if SetterIndex::of(first.number).log == start.log {
+    if SetterIndex::of(first.key).log == start.log {
         Some(first)
     } else {
         None
@@ -129,38 +129,38 @@ fn conflicts_from(
     logs: &Logs,
     members: &[Member],
     start: SetterIndex,
-    number: usize,
+    key: usize,
 ) -> bool
     requires members { AreFalling members.now }
-    requires start { HasNumber start }
+    requires start { HasKey start }
     ensures sound { (us : _) → AreMembers history.now.ops logs.now us members.now
-        → IsTrue result → ConflictsWithOne history.now.ops logs.now us number }
+        → IsTrue result → ConflictsWithOne history.now.ops logs.now us key }
     ensures complete { (o : _) (us : _) (y : _)
-        → CanConflict history.now.ops o logs.now us members.now start number y → IsTrue result }
-    ensures bound { IsTrue result → number < FIRST_ABOVE }
+        → CanConflict history.now.ops o logs.now us members.now start key y → IsTrue result }
+    ensures bound { IsTrue result → key < FIRST_ABOVE }
 {
     let Some(first) = first_from(members, start) else {
         return false;
     };
-    if conflict(history, logs, first.number, number) {
+    if conflict(history, logs, first.key, key) {
         return true;
     }
     match first.other {
-        Some(other) => conflict(history, logs, other, number),
+        Some(other) => conflict(history, logs, other, key),
         None => false,
     }
 }
 
 /// Whether one of the members conflicts directly with the setter.
-fn conflicts_with_one(history: &History, logs: &Logs, members: &[Member], number: usize) -> bool
+fn conflicts_with_one(history: &History, logs: &Logs, members: &[Member], key: usize) -> bool
     requires { AreFalling members.now }
     ensures value { (o : _) (us : _) → AreMembersOf history.now.ops o logs.now us members.now
-        → (IsTrue result ↔ ConflictsWithOne history.now.ops logs.now us number) }
-    ensures bound { IsTrue result → number < FIRST_ABOVE }
+        → (IsTrue result ↔ ConflictsWithOne history.now.ops logs.now us key) }
+    ensures bound { IsTrue result → key < FIRST_ABOVE }
 {
     // The clause of `ops` says that the history is valid.
     let _ = history.ops();
-    let Some(op) = op_of(history, logs, number) else {
+    let Some(op) = op_of(history, logs, key) else {
         return false;
     };
     let Some(value) = op_value(Some(op)) else {
@@ -168,35 +168,35 @@ fn conflicts_with_one(history: &History, logs: &Logs, members: &[Member], number
     };
     for site in 0..8 {
         let start = logs.first_unknown(value.attribute(), site, &op.past);
-        if conflicts_from(history, logs, members, start, number) {
+        if conflicts_from(history, logs, members, start, key) {
             return true;
         }
     }
     false
 }
 
-/// Adds the number, if one of the members conflicts directly with its setter.
+/// Adds the key, if one of the members conflicts directly with its setter.
 fn add_conflicting(
     history: &History,
     logs: &Logs,
     members: &[Member],
-    number: usize,
+    key: usize,
     found: &mut Numbers,
 ) -> Result<(), OutOfMemory>
     requires { AreFalling members.now }
     ensures { OnOk result ((o : _) (us : _)
         → AreMembersOf history.now.ops o logs.now us members.now
-        → AddsIf (ConflictsWithOne history.now.ops logs.now us number)
-        number found.old found.new) }
+        → AddsIf (ConflictsWithOne history.now.ops logs.now us key)
+        key found.old found.new) }
 {
-    if conflicts_with_one(history, logs, members, number) {
-        found.join(number)
+    if conflicts_with_one(history, logs, members, key) {
+        found.join(key)
     } else {
         Ok(())
     }
 }
 
-/// The numbers of `among` whose setter conflicts directly with a setter of the others. Each is
+/// The keys of `among` whose setter conflicts directly with a setter of the others. Each is
 /// compared with two of the others for each site.
 pub fn conflicting_with(
     alloc: Global,
@@ -212,8 +212,8 @@ pub fn conflicting_with(
     let all = among.to_vec(alloc)?;
     let members = members_of(alloc, history, logs, &others.to_vec(alloc)?)?;
     let mut found = Numbers::new(alloc);
-    for number in &all {
-        add_conflicting(history, logs, &members, *number, &mut found)?;
+    for key in &all {
+        add_conflicting(history, logs, &members, *key, &mut found)?;
     }
     Ok(found)
 }

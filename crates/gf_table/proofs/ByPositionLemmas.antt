@@ -1,4 +1,4 @@
--- Components of numbers are components of what stands for them, as of positions in a history.
+-- Components of keys are components of what stands for them, as of positions in a history.
 use Rattle.std.proofs.Common.{◌≡◌, ℕ, Bool, List, map, length, inl, inr, subst, sym, ap, ◌∙◌, arith}
 use Rattle.std.specs.Prelude.{◌↔◌, Contains, Option, Some, None}
 use Rattle.std.proofs.lemmas.List.{length-map}

@@ -28,7 +28,7 @@ use Rattle.gf_table.proofs.StandsLemmas.{found}
 use Rattle.gf_table.specs.Counting.{IsCount, capped}
 use Rattle.gf_table.specs.Multiplying.{count_with, counted, sets_times}
 
--- ---- capped numbers
+-- ---- capped keys
 
 pub capped_few : (n : ℕ) → n ≤ 1000 → capped n ≡ n
 capped_few n l = cond-true (nat_le n 1000) n 1001 (le-leb n 1000 l)
@@ -40,7 +40,7 @@ times_some : (n k : ℕ) → 1 ≤ k → n ≤ n * k
 times_some n k o = let e : n * 1 ≤ n * k = mul-le-mul_left n o in let d = mul-one n in
     omega (arith, e, d)
 
--- a product of a capped number and of that number are capped alike
+-- a product of a capped key and of that key are capped alike
 capped_times : (n k : ℕ) → 1 ≤ k → capped (capped n * k) ≡ capped (n * k)
 capped_times n k o = elim (cases_lt 1000 n) [
   | inl m ↦
@@ -86,7 +86,7 @@ module _ (c : ℕ → ℕ → Bool) (s : IsConflict c) where
       ap (λ n. fold count_with n ps) e ∙ counts_all ps (λ q i. are q (Contains-cons_tail p ps q i))
       (products gs (full c p)) (omega (arith, long, more, o))
 
--- ---- a map of the numbers leaves how many sets there are
+-- ---- a map of the keys leaves how many sets there are
 
 sets_image : (f : ℕ → ℕ) (n : ℕ) (r : Option (List (List ℕ)))
     → sets_times n (sets_at f r) ≡ sets_times n r
@@ -112,7 +112,7 @@ count_told h valid o t on made n e =
           (t.free ∷ []) (omega arith) ∙ ap capped (sym (length-map (listed c t) (group_at h o))));
     }
 
--- and so it is where the components have other numbers than positions
+-- and so it is where the components have other keys than positions
 pub count_of_state : (h : List Op) → IsValid h → (o : ObjectId) → (t : ObjectState)
     → IsStateOf h o t → IsMade h o → (n : ℕ) → n ≡ counted t.components.components → IsCount h o n
 count_of_state h valid o t is made n e =

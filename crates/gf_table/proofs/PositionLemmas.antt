@@ -1,4 +1,4 @@
--- The operations at all numbers of an object's components are those on it.
+-- The operations at all keys of an object's components are those on it.
 use Rattle.std.proofs.Common.{◌≡◌, ℕ, List, [], ◌∷◌, ◌++◌, refl, sym, ap, subst, inl, inr}
 use Rattle.std.specs.Prelude.{◌↔◌, true, Contains, Option, Some, None, filter_map, slice_get}
 use Rattle.std.specs.List.{cons_option, flat_map}
@@ -39,7 +39,7 @@ to_flat (q ∷ ps) k p i c = elim (Contains-cons_cases q ps p i) [
       (to_flat ps k p j c)
 ]
 
--- the numbers of an object's components are the positions of the operations on it
+-- the keys of an object's components are the positions of the operations on it
 numbers_on : (h : List Op) (o : ObjectId) (t : ComponentsState) → AreComponentsOn h o t
     → (k : ℕ) → Contains (numbers_in t) k ↔ (is_on o (slice_get h k) ≡ true)
 numbers_on h o t on k =
@@ -105,7 +105,7 @@ module _ (h : List Op) where
     | inr m ↦ to_cons (slice_get h i) (at_all us) a (to_all us k a m e)
   ]
 
-  -- the operations at the numbers of an object's components are those on it
+  -- the operations at the keys of an object's components are those on it
   pub operations_on : (o : ObjectId) (t : ComponentsState) → AreComponentsOn h o t
       → AreOn h o (filter_map (slice_get h) (numbers_in t))
   operations_on o t on a =

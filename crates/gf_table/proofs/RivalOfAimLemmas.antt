@@ -1,4 +1,4 @@
--- What conflicts with an aim, by what the calls find; and the members of an aim by their numbers.
+-- What conflicts with an aim, by what the calls find; and the members of an aim by their keys.
 use Rattle.std.proofs.Common.{◌≡◌, ℕ, List, inl, inr, subst, sym, ap, ◌∙◌}
 use Rattle.std.specs.Prelude.{◌⊎◌, ◌↔◌, Contains}
 use Rattle.gf_maximal.specs.Growing.{common, is_in, united}

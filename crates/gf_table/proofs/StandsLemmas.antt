@@ -37,10 +37,10 @@ use Rattle.gf_components.specs.Components.{ComponentState, ComponentsState, alon
 use Rattle.gf_components.specs.Components.{whole}
 use Rattle.gf_components.proofs.ComponentLemmas.{all_of_fold, first_components}
 use Rattle.gf_table.specs.ByPosition.{components_at}
-use Rattle.gf_table.specs.ObjectState.{ObjectState, maker_number, number_conflict, position_in}
+use Rattle.gf_table.specs.ObjectState.{ObjectState, maker_key, key_conflict, position_in}
 use Rattle.gf_table.specs.Standing.{AreComponentsOn, IsStateOf, IsObjectState, StandsFor, state_of}
 use Rattle.gf_table.proofs.ByPositionLemmas.{components_image, whole_image}
-use Rattle.gf_table.proofs.StateLemmas.{maker_position, number_at, numbers_test, one_number}
+use Rattle.gf_table.proofs.StateLemmas.{maker_position, key_at, keys_test, one_key}
 use Rattle.gf_table.proofs.StateLemmas.{setter_at, state_kept}
 
 at_told : (o q : ObjectId) → is_at (object_cmp o) q ≡ true → o ≡ q
@@ -128,9 +128,9 @@ module _ (h : List Op) (o : ObjectId) where
 
     pub found : AreComponentsOn h o (components_at f t.components)
     found = record {
-      components = components_image f (number_conflict h t) (conflict_at h) (numbers_test h t)
+      components = components_image f (key_conflict h t) (conflict_at h) (keys_test h t)
           (conflict_at_test h) t.components s.components
-          (λ i j a b e. one_number h o t s i j a b e) (λ i j a b. refl);
+          (λ i j a b e. one_key h o t s i j a b e) (λ i j a b. refl);
       all = λ i. (
         λ j. let w = (image i).0 j in
             (all_positions h o i).1 (subst (λ z. is_on o (slice_get h z) ≡ true) (sym w.2)
@@ -141,9 +141,9 @@ module _ (h : List Op) (o : ObjectId) where
       where
         image : (i : ℕ) → Contains (whole (components_at f t.components)).all i
             ↔ Made f (whole t.components).all i
-        image i = whole_image f (number_conflict h t) (conflict_at h) (numbers_test h t)
+        image i = whole_image f (key_conflict h t) (conflict_at h) (keys_test h t)
             (conflict_at_test h) t.components s.components
-            (λ i j a b e. one_number h o t s i j a b e) (λ i j a b. refl) i
+            (λ i j a b e. one_key h o t s i j a b e) (λ i j a b. refl) i
 
         stands_on : (i : ℕ) (b : Op) → slice_get h i ≡ Some b → object_of b ≡ o
             → is_on o (slice_get h i) ≡ true
@@ -161,7 +161,7 @@ module _ (h : List Op) (o : ObjectId) where
           | inr w ↦
               let k = setter_at h o t s n w.0 w.1 in
               subst (λ z. is_on o (slice_get h z) ≡ true)
-              (sym (number_at h o t s.logged n w.0 w.1))
+              (sym (key_at h o t s.logged n w.0 w.1))
               (stands_on w.0 k.0 k.1 (ap (changed_object k.0.id) k.4))
         ]
 
@@ -178,14 +178,14 @@ module _ (h : List Op) (o : ObjectId) where
                 (contained_at h t.maker s.maker.op s.maker.at) (id ∙ sym s.maker.id) in
                 let same : i ≡ t.maker = one_position h valid i t.maker b at (s.maker.at
                 ∙ ap (λ z. Some z) (sym one)) in (
-                  maker_number,
-                  (s.exactly maker_number).1 (inl refl),
+                  maker_key,
+                  (s.exactly maker_key).1 (inl refl),
                   same ∙ sym (maker_position h o t s.logged),
                 )
             by_change (Set p v aim) e =
                 let named : p ≡ o = ap (changed_object b.id) (sym e) ∙ on in
                 let k = s.logged.all i b v aim at (subst (λ z. b.change ≡ Set z v aim) named e) in
-                (k.0, (s.exactly k.0).1 (inr (i, k.1)), sym (number_at h o t s.logged k.0 i k.1))
+                (k.0, (s.exactly k.0).1 (inr (i, k.1)), sym (key_at h o t s.logged k.0 i k.1))
 
         numbered : (i : ℕ) → is_on o (slice_get h i) ≡ true → Made f (whole t.components).all i
         numbered i y = let w = on_op o (slice_get h i) y in of_op i w.0 w.1 w.2

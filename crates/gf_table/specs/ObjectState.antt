@@ -19,9 +19,9 @@ pub record ObjectState : Type 0 where
   pub components : ComponentsState
   pub maker : ℕ
 
--- the number of the creation, above those of all setters
-abbrev pub maker_number : ℕ
-maker_number = FIRST_ABOVE
+-- the key of the creation, above those of all setters
+abbrev pub maker_key : ℕ
+maker_key = FIRST_ABOVE
 
 -- the state of an object whose creation stands at the position m
 abbrev pub made : ℕ → ObjectState
@@ -29,12 +29,12 @@ made m = record {
   logs = no_logs;
   index = None;
   aimed = [];
-  components = with_free maker_number no_components;
+  components = with_free maker_key no_components;
   maker = m;
 }
 
 -- the state with a setter of the attribute u under the id, with the rivals d. The setter stands at
--- the position p and has the number n
+-- the position p and has the key n
 abbrev pub with_grown : Attr → OpId → ℕ → ℕ → List ℕ → ObjectState → ObjectState
 with_grown u id p n d t = record {
   logs = with_setter t.logs u (id.site - 1) (record { seq = id.seq; position = p });
@@ -44,10 +44,10 @@ with_grown u id p n d t = record {
   maker = t.maker;
 }
 
--- the position of the operation with the number n
+-- the position of the operation with the key n
 abbrev pub position_in : ObjectState → ℕ → ℕ
 position_in t n = unwrap_or (position_of t.logs n) t.maker
 
--- the operations of h with the numbers i and j conflict
-abbrev pub number_conflict : List Op → ObjectState → ℕ → ℕ → Bool
-number_conflict h t i j = conflict_at h (position_in t i) (position_in t j)
+-- the operations of h with the keys i and j conflict
+abbrev pub key_conflict : List Op → ObjectState → ℕ → ℕ → Bool
+key_conflict h t i j = conflict_at h (position_in t i) (position_in t j)

@@ -24,8 +24,8 @@ use Rattle.gf_components.specs.Components.{whole}
 use Rattle.gf_components.specs.Separate.{AreComponents}
 use Rattle.gf_rivals.specs.Aimed.{AimedState, AreAimed, ConflictDirectly}
 use Rattle.gf_rivals.specs.Indexes.{IsIndex}
-use Rattle.gf_rivals.specs.Rivals.{IsNumber, AreLogsOf}
-use Rattle.gf_table.specs.ObjectState.{ObjectState, maker_number, number_conflict}
+use Rattle.gf_rivals.specs.Rivals.{IsKey, AreLogsOf}
+use Rattle.gf_table.specs.ObjectState.{ObjectState, maker_key, key_conflict}
 
 -- the operation of h at the position m made the object o
 pub record IsMaker (h : List Op) (o : ObjectId) (m : ℕ) : Type 0 where
@@ -41,9 +41,9 @@ pub record IsStateOf (h : List Op) (o : ObjectId) (t : ObjectState) : Type 0 whe
   pub logged : AreLogsOf h o t.logs
   pub index : IfSome t.index (IsIndex h t.logs)
   pub aimed : AreAimed h t.logs t.aimed
-  pub components : AreComponents (number_conflict h t) t.components
+  pub components : AreComponents (key_conflict h t) t.components
   pub exactly : (n : ℕ) → Contains (whole t.components).all n
-      ↔ ((n ≡ maker_number) ⊎ ((q : ℕ) × IsNumber t.logs n q))
+      ↔ ((n ≡ maker_key) ⊎ ((q : ℕ) × IsKey t.logs n q))
 
 -- a comes next behind h, and gives the object of the state t the value v
 pub record IsNextOf (h : List Op) (a : Op) (v : Value) (t : ObjectState) : Type 0 where
@@ -55,7 +55,7 @@ pub record IsNextOf (h : List Op) (a : Op) (v : Value) (t : ObjectState) : Type 
   pub change : a.change ≡ Set object v aim
   pub state : IsStateOf h object t
 
--- a setter with one of the numbers us conflicts directly with the setter n, in one component
+-- a setter with one of the keys us conflicts directly with the setter n, in one component
 pub record IsRivalOfAim (h : List Op) (t : ObjectState) (us : List ℕ) (n : ℕ) : Type 0 where
   pub reached : IsReached us t.components.components n
   pub one : ℕ
@@ -96,7 +96,7 @@ module _ (c : ℕ → ℕ → Bool) where
   abbrev pub full : ComponentState → List (List ℕ)
   full p = unwrap_or p.sets (groups_at c p.all)
 
-  -- the sets that are free numbers with one set of each component
+  -- the sets that are free keys with one set of each component
   abbrev pub listed : ComponentsState → List (List ℕ)
   listed s = fold (λ gs p. products gs (full p)) (s.free ∷ []) s.components
 

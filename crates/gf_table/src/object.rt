@@ -6,17 +6,17 @@ ghost use Rattle.std.specs.Prelude.{length, slice_index_or};
 ghost use Rattle.gf_maximal.specs.Growing.{image};
 ghost use Rattle.gf_ops.specs.Attribute.{aim_of};
 ghost use Rattle.gf_ops.specs.OperationOrder.{IsSite};
-ghost use Rattle.gf_rivals.specs.Aimed.{AreNumbersOf, IsConflict};
+ghost use Rattle.gf_rivals.specs.Aimed.{AreKeysOf, IsConflict};
 ghost use Rattle.gf_rivals.specs.Logs.{setters};
 ghost use Rattle.gf_rivals.specs.Members.{ListsSetters};
 ghost use Rattle.gf_rivals.specs.Rivals.{AreRivals, AreLogsOf};
-ghost use Rattle.gf_rivals.specs.Indexes.{IsIndex, PutsNumber};
+ghost use Rattle.gf_rivals.specs.Indexes.{IsIndex, PutsKey};
 ghost use Rattle.gf_rivals.specs.Fingerprints.{fingerprint_of};
 ghost use Rattle.gf_ops.specs.declared.change.Change.TheVariants.{Set};
 ghost use Rattle.gf_rivals.specs.declared.logs.TheConstants.{LOGS};
 ghost use Rattle.gf_table.specs.ByPosition.{sets_at, component_at, components_at};
 ghost use Rattle.gf_table.specs.Multiplying.{counted};
-ghost use Rattle.gf_table.specs.ObjectState.{made, maker_number, position_in, with_grown};
+ghost use Rattle.gf_table.specs.ObjectState.{made, maker_key, position_in, with_grown};
 ghost use Rattle.gf_table.specs.Standing.{IsRivalOfAim, IsNextOf, IsStateOf, with_aim};
 
 use crate::counting::counted;
@@ -25,12 +25,12 @@ use gf_components::{Component, Components};
 use gf_maximal::Numbers;
 use gf_ops::{Attr, Clock, History, Op, OpId, Value};
 use gf_rivals::{
-    Aimed, FIRST_ABOVE, Index, Logs, conflicting_with, numbers_of, rivals, with_aimed,
+    Aimed, FIRST_ABOVE, Index, Logs, SetterIndex, conflicting_with, keys_of, rivals, with_aimed,
 };
 use std::alloc::Global;
 use std::marker::Model;
 
-/// The number of the creation, above those of all setters.
+/// The key of the creation, above those of all setters.
 const MAKER: usize = FIRST_ABOVE;
 
 /// A copy of the index, if there is one.
@@ -50,37 +50,32 @@ fn with_setter(
     made: Option<Index>,
     kept: Option<Index>,
     value: &Value,
-    number: usize,
+    key: usize,
 ) -> Option<Index>
-    requires { number + 1 < 2 ^ 64 }
+    requires { key + 1 < 2 ^ 64 }
     ensures { IfSome result (λ new. (old : _) × ((made ≡ Some old) ⊎ (kept ≡ Some old))
-        × PutsNumber old (fingerprint_of value.now) number new) }
+        × PutsKey old (fingerprint_of value.now) key new) }
 {
     match made {
-        Some(index) => index.with(alloc, value, number),
+        Some(index) => index.with(alloc, value, key),
         None => match kept {
-            Some(index) => index.with(alloc, value, number),
+            Some(index) => index.with(alloc, value, key),
             None => None,
         },
     }
 }
 
 /// Adds the state of an operation that aims at others.
-fn push_aimed(
-    aimed: &mut Vec<Aimed>,
-    op: &Op,
-    number: usize,
-    aim: Numbers,
-) -> Result<(), OutOfMemory>
-    requires { number + 1 < 2 ^ 64 }
+fn push_aimed(aimed: &mut Vec<Aimed>, op: &Op, key: usize, aim: Numbers) -> Result<(), OutOfMemory>
+    requires { key + 1 < 2 ^ 64 }
     ensures ok { OnOk result (aimed.new.items
-        ≡ with_aim (aim_of op.now) (record { number = number; aim = aim }) aimed.old.items) }
+        ≡ with_aim (aim_of op.now) (record { key = key; aim = aim }) aimed.old.items) }
     ensures err { OnErr result (aimed.new.items ≡ aimed.old.items) }
 {
     if op.aim().is_empty() {
         return Ok(());
     }
-    aimed.push(Aimed::new(number, aim))?;
+    aimed.push(Aimed::new(key, aim))?;
     Ok(())
 }
 
@@ -105,7 +100,7 @@ fn copied_aimed(alloc: Global, aimed: &[Aimed]) -> Result<Vec<Aimed>, OutOfMemor
     Ok(copy)
 }
 
-/// The operations on an object, by numbers: the logs of its setters, and their components. It
+/// The operations on an object, by keys: the logs of its setters, and their components. It
 /// also has what aims, and the position of the creation.
 #[derive(Debug, Drop)]
 pub(crate) struct ObjectTable {
@@ -146,7 +141,7 @@ impl ObjectTable {
         })
     }
 
-    /// The numbers of operations in direct conflict with one that knows these and gives the value.
+    /// The keys of operations in direct conflict with one that knows these and gives the value.
     /// Where an index was made for it, the call gives that too.
     fn direct_rivals(
         &self,
@@ -177,7 +172,7 @@ impl ObjectTable {
         }
     }
 
-    /// The numbers, with those of the setters that conflict directly with one of the aim. Only
+    /// The keys, with those of the setters that conflict directly with one of the aim. Only
     /// operations of the components that the aim touches are compared.
     fn with_rivals_of_aim(
         &self,
@@ -199,7 +194,7 @@ impl ObjectTable {
         direct.united(alloc, &met)
     }
 
-    /// The numbers of operations that conflict with the next one, which has this aim and gives the
+    /// The keys of operations that conflict with the next one, which has this aim and gives the
     /// value. Where an index was made for it, the call gives that too.
     fn rivals(
         &self,
@@ -210,7 +205,7 @@ impl ObjectTable {
         aim: &Numbers,
     ) -> Result<(Numbers, Option<Index>), OutOfMemory>
         requires next { IsNextOf history.now.ops op.now value.now self.now }
-        requires aim { AreNumbersOf history.now.ops self.now.logs (aim_of op.now) aim.now }
+        requires aim { AreKeysOf history.now.ops self.now.logs (aim_of op.now) aim.now }
         ensures rivals { IfOk result (λ found. (n : _) → Contains found.0 n
             ↔ IsConflict history.now.ops self.now.logs op.now n) }
         ensures made { IfOk result (λ found.
@@ -222,14 +217,14 @@ impl ObjectTable {
         Ok((found, made))
     }
 
-    /// Adds the setter with this number, which has these rivals.
+    /// Adds the setter with this key, which has these rivals.
     fn grow(
         &mut self,
         alloc: Global,
         position: usize,
         id: OpId,
         attribute: Attr,
-        number: usize,
+        key: usize,
         rivals: &Numbers,
     ) -> Result<(), OutOfMemory>
         requires site { IsSite id.site }
@@ -238,13 +233,13 @@ impl ObjectTable {
             → i < length (setters self.old.logs attribute (id.site - 1))
             → (slice_index_or (setters self.old.logs attribute (id.site - 1)) i d).seq < id.seq }
         requires logs { length self.old.logs ≡ LOGS }
-        requires number { number + 1 < 2 ^ 64 }
+        requires key { key + 1 < 2 ^ 64 }
         ensures ok { OnOk result (self.new
-            ≡ with_grown attribute id position number rivals.now self.old) }
+            ≡ with_grown attribute id position key rivals.now self.old) }
         ensures err { OnErr result (self.new ≡ self.old) }
     {
         self.logs.push(alloc, attribute, id, position)?;
-        match self.components.add(alloc, rivals, number) {
+        match self.components.add(alloc, rivals, key) {
             Ok(()) => Ok(()),
             Err(OutOfMemory) => {
                 self.logs.pop(attribute, id.site);
@@ -267,15 +262,15 @@ impl ObjectTable {
         ensures err { OnErr result (self.new ≡ self.old) }
     {
         let attribute = value.attribute();
-        let number = self.logs.next_number(attribute, op.id.site);
-        let aim = numbers_of(alloc, history, &self.logs, op.aim())?;
+        let key = self.logs.next(attribute, op.id.site).key();
+        let aim = keys_of(alloc, history, &self.logs, op.aim())?;
         let (rivals, made) = self.rivals(alloc, history, op, value, &aim)?;
-        push_aimed(&mut self.aimed, op, number, aim)?;
+        push_aimed(&mut self.aimed, op, key, aim)?;
         let position = history.ops().len();
-        match self.grow(alloc, position, op.id, attribute, number, &rivals) {
+        match self.grow(alloc, position, op.id, attribute, key, &rivals) {
             Ok(()) => {
                 let kept = self.index.take();
-                self.index = with_setter(alloc, made, kept, value, number);
+                self.index = with_setter(alloc, made, kept, value, key);
                 Ok(())
             }
             Err(OutOfMemory) => {
@@ -302,26 +297,21 @@ impl ObjectTable {
         })
     }
 
-    /// The position of the operation that has this number.
-    fn position(&self, number: usize) -> usize
-        ensures { result ≡ position_in self.now number }
+    /// The position of the operation that has this key.
+    fn position(&self, key: usize) -> usize
+        ensures { result ≡ position_in self.now key }
     {
-        match self.logs.position(number) {
+        match self.logs.position(SetterIndex::of(key)) {
             Some(position) => position,
             None => self.maker,
         }
     }
 
-    /// The positions of the operations that have these numbers, in the order of the numbers.
-    fn positions(&self, alloc: Global, numbers: &[usize]) -> Result<Vec<usize>, OutOfMemory>
-        ensures { IfOk result (λ found. found.items ≡ map (position_in self.now) numbers.now) }
+    /// The positions of the operations that have these keys, in the order of the keys.
+    fn positions(&self, alloc: Global, keys: &[usize]) -> Result<Vec<usize>, OutOfMemory>
+        ensures { IfOk result (λ found. found.items ≡ map (position_in self.now) keys.now) }
     {
-        Ok(
-            numbers
-                .iter()
-                .map(|number| self.position(*number))
-                .collect(alloc)?,
-        )
+        Ok(keys.iter().map(|key| self.position(*key)).collect(alloc)?)
     }
 
     /// The positions of the operations of a set.

@@ -5,5 +5,5 @@ use Rattle.gf_rivals.proofs.aims.with_aimed.Given as goal
 
 abbrev pub invariant-loop-operation : goal.invariant-loop-operation
 invariant-loop-operation l = (n : ℕ)
-    → Contains l.found n ↔ (Contains l.fn.numbers n ⊎ AimsAtOne (take l.operation-index l.aimed)
-    l.fn.numbers n)
+    → Contains l.found n ↔ (Contains l.fn.keys n ⊎ AimsAtOne (take l.operation-index l.aimed)
+    l.fn.keys n)

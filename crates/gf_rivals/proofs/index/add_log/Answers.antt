@@ -7,4 +7,4 @@ pub returns-in-Some : goal.returns-in-Some
 returns-in-Some c =
     let same : c.setters.result.now ≡ get_or c.args.logs.now c.args.index [] = search rules in
     subst (λ z. OnOk c.add_setters.result (Lists c.args.ops.now z c.args.index (length z)
-    c.args.numbers.now.entries c.add_setters.new.numbers.entries)) same c.add_setters.ensures
+    c.args.keys.now.entries c.add_setters.new.keys.entries)) same c.add_setters.ensures

@@ -4,4 +4,4 @@ use Rattle.gf_rivals.proofs.members.members_of.Given as goal
 
 abbrev pub invariant-loop-behind : goal.invariant-loop-behind
 invariant-loop-behind l = AreMembers l.history.ops l.logs
-    (drop (length l.numbers - l.behind) l.numbers) l.members.items
+    (drop (length l.keys - l.behind) l.keys) l.members.items

@@ -10,7 +10,7 @@ pub returns-then-intersects : goal.returns-then-intersects
 returns-then-intersects c =
     let met = sym c.intersects.ensures ∙ c.if-intersects.true in
     on_ok_weaker c.join.result
-    (λ e. subst (λ (z : AimedState). AddsIf (intersects z.aim c.args.others.now ≡ true) z.number
+    (λ e. subst (λ (z : AimedState). AddsIf (intersects z.aim c.args.others.now ≡ true) z.key
     c.args.found.now c.join.new.self) c.self.view_is
-    (adds_joined (intersects c.self.inside.aim c.args.others.now ≡ true) c.self.inside.number
+    (adds_joined (intersects c.self.inside.aim c.args.others.now ≡ true) c.self.inside.key
     c.args.found.now c.join.new.self met e)) c.join.ensures.ok

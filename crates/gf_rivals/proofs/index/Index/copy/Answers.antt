@@ -13,9 +13,9 @@ loop-fingerprint-preserved c =
     let sorted : IsStrictlySortedBy fingerprint_cmp
     (keys_of c.into_iter-fingerprint-iterator.result) = rw gives.0 gives.5 in
     let made = c.in_ok-put.ensures.entries
-    ∙ ap (λ (s : List ℕ). insert_entry fingerprint_cmp c.loop-fingerprint.numbers.entries
+    ∙ ap (λ (s : List ℕ). insert_entry fingerprint_cmp c.loop-fingerprint.keys.entries
     c.in-Some.fingerprint.now s) c.in_ok-some.ensures in
-    copied_more fingerprint_cmp fingerprint_cmp_total c.loop-fingerprint.numbers.entries
-    c.put.new.numbers.entries c.into_iter-fingerprint-iterator.result c.in-Some.fingerprint.now
+    copied_more fingerprint_cmp fingerprint_cmp_total c.loop-fingerprint.keys.entries
+    c.put.new.keys.entries c.into_iter-fingerprint-iterator.result c.in-Some.fingerprint.now
     c.in-Some.some.now c.next.new.self c.loop-fingerprint.fingerprint-iterator
     sorted made c.in-Some.ensures.steps c.loop-fingerprint.invariant

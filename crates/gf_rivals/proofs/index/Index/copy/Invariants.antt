@@ -3,4 +3,4 @@ use Rattle.gf_rivals.proofs.index.Index.copy.Given as goal
 
 abbrev pub invariant-loop-fingerprint : goal.invariant-loop-fingerprint
 invariant-loop-fingerprint l =
-    l.numbers.entries ++ l.fingerprint-iterator ≡ l.initial.fingerprint-iterator
+    l.keys.entries ++ l.fingerprint-iterator ≡ l.initial.fingerprint-iterator

@@ -2,7 +2,8 @@ use Rattle.std.proofs.Common.{◌≡◌, List, [], ◌∷◌, ◌++◌, length, 
 use Rattle.std.specs.Prelude.{IfSome}
 use Rattle.gf_ops.specs.declared.op.OpId.{OpId}
 use Rattle.gf_ops.specs.Attribute.{aim_of, changed_object}
-use Rattle.gf_rivals.specs.Aimed.{AimedState, AreNumbersOf}
+use Rattle.gf_rivals.specs.SetterIndexes.{key_of}
+use Rattle.gf_rivals.specs.Aimed.{AimedState, AreKeysOf}
 use Rattle.gf_rivals.specs.Indexes.{IsIndex}
 use Rattle.gf_table.specs.ObjectState.{ObjectState, with_grown}
 use Rattle.gf_table.specs.Standing.{IsStateOf}
@@ -10,8 +11,8 @@ use Rattle.gf_table.proofs.RivalOfAimLemmas.{aim_named, conflicts_of}
 use Rattle.gf_table.proofs.StateLemmas.{behind, if_some, index_there, state_added}
 use Rattle.gf_table.proofs.object.ObjectTable.add.Goals as goal
 
-pub numbers_of-requires : goal.numbers_of-requires
-numbers_of-requires c =
+pub keys_of-requires : goal.keys_of-requires
+keys_of-requires c =
     let n = c.requires in
     let t : ObjectState = record {
       logs = c.self.inside.logs;
@@ -35,9 +36,9 @@ rivals-requires-clause-aim c =
       components = c.self.inside.components;
       maker = c.self.inside.maker;
     } in
-    let told = subst (λ (z : List OpId). AreNumbersOf c.args.history.now.ops t.logs z
+    let told = subst (λ (z : List OpId). AreKeysOf c.args.history.now.ops t.logs z
     c.in_ok-aim.aim) c.aim.ensures c.in_ok-aim.ensures in
-    subst (λ (z : ObjectState). AreNumbersOf c.args.history.now.ops z.logs (aim_of c.args.op.now)
+    subst (λ (z : ObjectState). AreKeysOf c.args.history.now.ops z.logs (aim_of c.args.op.now)
     c.in_ok-aim.aim) c.self.view_is told
 
 pub grow-requires-clause-last : goal.grow-requires-clause-last
@@ -74,9 +75,9 @@ returns-in-Ok-clause-ok c = λ o aim e.
     let made = subst (λ (z : ObjectState). IfSome c.in_ok-rivals.made (IsIndex h z.logs))
     (sym c.self.view_is) c.in_ok-rivals.ensures.made in
     let us = c.in_ok-aim.aim in
-    let are = subst (λ (z : List OpId). AreNumbersOf h t.logs z us) c.aim.ensures
+    let are = subst (λ (z : List OpId). AreKeysOf h t.logs z us) c.aim.ensures
     c.in_ok-aim.ensures in
-    let number = c.next_number-number.result in
+    let key = c.key-key.result in
     let position = length c.ops-position.result.now in
     let pushed : ObjectState = record {
       logs = t.logs;
@@ -92,7 +93,7 @@ returns-in-Ok-clause-ok c = λ o aim e.
       components = c.self-2.inside.components;
       maker = c.self-2.inside.maker;
     } in
-    let grown : now ≡ with_grown c.attribute-attribute.result a.id position number
+    let grown : now ≡ with_grown c.attribute-attribute.result a.id position key
     c.in_ok-rivals.rivals pushed = c.self-2.view_is ∙ c.in-Ok.ensures.ok in
     let i = c.with_setter.result in
     let index = if_some i (λ new w. (
@@ -120,7 +121,7 @@ returns-in-Ok-clause-ok c = λ o aim e.
       maker = z.maker;
     }) grown
     ∙ ap (λ (es : List AimedState). (let w : ObjectState = with_grown c.attribute-attribute.result
-    a.id position number c.in_ok-rivals.rivals pushed in record {
+    a.id position key c.in_ok-rivals.rivals pushed in record {
       logs = w.logs;
       index = i;
       aimed = es;
@@ -129,7 +130,8 @@ returns-in-Ok-clause-ok c = λ o aim e.
     })) c.in_ok-push_aimed.ensures.ok in
     let done = state_added h n.object t s a n.valid n.in_range n.accepted c.args.value.now n.change
     c.attribute-attribute.result c.attribute-attribute.ensures
-    c.in_ok-rivals.rivals rivals us are number position c.next_number-number.ensures.value
+    c.in_ok-rivals.rivals rivals us are key position
+    (c.key-key.ensures.value ∙ ap key_of c.next.ensures.value)
     (ap length c.ops-position.ensures.ops) i index _ whole in
     subst (λ z. IsStateOf (h ++ a ∷ []) z
     (record {

@@ -13,7 +13,7 @@ returns-clause-rivals c =
     n.accepted c.args.value.now n.change c.args.aim.now c.requires.aim
     c.in_ok-direct.direct c.in_ok-met.met c.in_ok-found.found
     (c.in_ok-direct.ensures.rivals n.object n.state) (c.in_ok-met.ensures n.object n.state.logged
-    (λ m i. let k = (c.requires.aim m).0 i in (k.position, k.number)))
+    (λ m i. let k = (c.requires.aim m).0 i in (k.position, k.key)))
     (subst (λ (z : List AimedState). (m : ℕ)
     → Contains c.in_ok-found.found m ↔ (Contains c.in_ok-met.met m ⊎ AimsAtOne z c.in_ok-met.met m))
     (c.deref.ensures.value ∙ ap (λ (z : ObjectState). z.aimed) c.self.view_is)

@@ -1,5 +1,5 @@
--- The numbers of setters and their positions: each number is that of one setter, and each position
--- has one number.
+-- The keys of setters and their positions: each key is that of one setter, and each position
+-- has one key.
 use Rattle.std.proofs.Common.{◌≡◌, ℕ, zero, suc, ◌<◌, ◌≤◌, ◌+◌, ◌/◌, ◌%◌, ◌^◌, List, [], ◌∷◌}
 use Rattle.std.proofs.Common.{length, get_or, inl, inr, refl, subst, sym, ap, ◌∙◌, arith}
 use Rattle.std.specs.Prelude.{Contains, Option, Some, None, slice_get, unwrap_or, option_map}
@@ -19,9 +19,9 @@ use Rattle.gf_ops.specs.Attribute.{attribute_index}
 use Rattle.gf_ops.proofs.AttributeLemmas.{attribute_at, attribute_index_at, attribute_index_below}
 use Rattle.gf_ops.proofs.AttributeLemmas.{one_attribute}
 use Rattle.gf_rivals.specs.Logs.{log_of, setters, position_of}
-use Rattle.gf_rivals.specs.Rivals.{IsNumber, AreLogsOf}
-use Rattle.gf_rivals.proofs.SetterIndexLemmas.{log_number, number_of-setter_of, one_log_number}
-use Rattle.gf_rivals.proofs.SetterIndexLemmas.{setter_of-log_number}
+use Rattle.gf_rivals.specs.Rivals.{IsKey, AreLogsOf}
+use Rattle.gf_rivals.proofs.SetterIndexLemmas.{log_key, key_of-setter_of, one_log_key}
+use Rattle.gf_rivals.proofs.SetterIndexLemmas.{setter_of-log_key}
 use Rattle.gf_rivals.proofs.SetterLemmas.{from_index}
 use Rattle.gf_rivals.specs.declared.logs.TheConstants.{LOGS}
 
@@ -57,12 +57,12 @@ setter_found : (r : Option Setter) (q : ℕ) → option_map (λ (e : Setter). e.
 setter_found None q f = absurd cc
 setter_found (Some e) q f = (e, refl, some_one e.position q f)
 
--- ---- numbers
+-- ---- keys
 
--- the number of the setter at the index p in the log with the index k
-pub number_in : (ls : List (List Setter)) (k p : ℕ) (e : Setter) → k < LOGS
-    → slice_get (get_or ls k []) p ≡ Some e → IsNumber ls (log_number k p) e.position
-number_in ls k p e l at =
+-- the key of the setter at the index p in the log with the index k
+pub key_in : (ls : List (List Setter)) (k p : ℕ) (e : Setter) → k < LOGS
+    → slice_get (get_or ls k []) p ≡ Some e → IsKey ls (log_key k p) e.position
+key_in ls k p e l at =
     let first : attribute_index (attribute_at (k / 8)) ≡ k / 8 = attribute_index_at (k / 8)
     (omega (arith, l)) in
     let log : k ≡ log_of (attribute_at (k / 8)) (k % 8) = omega (arith, first) in
@@ -73,7 +73,7 @@ number_in ls k p e l at =
       index = p;
       setter = e;
       at = subst (λ z. slice_get (get_or ls z []) p ≡ Some e) log at;
-      number = ap (λ z. log_number z p) log;
+      key = ap (λ z. log_key z p) log;
       position = refl;
     }
 
@@ -85,10 +85,10 @@ module _ (h : List Op) (o : ObjectId) (ls : List (List Setter)) (logs : AreLogsO
 
   pub one_setter : (n : ℕ) (t u : Attr) (s r p q : ℕ) (e f : Setter) → s < 8 → r < 8
       → slice_get (setters ls t s) p ≡ Some e → slice_get (setters ls u r) q ≡ Some f →
-      n ≡ log_number (log_of t s) p → n ≡ log_number (log_of u r) q
+      n ≡ log_key (log_of t s) p → n ≡ log_key (log_of u r) q
       → (t ≡ u) × (s ≡ r) × (e ≡ f)
   one_setter n t u s r p q e f l m a b x y =
-      let w = one_log_number (log_of t s) (log_of u r) p q (index_short t s p e l a)
+      let w = one_log_key (log_of t s) (log_of u r) p q (index_short t s p e l a)
       (index_short u r q f m b) (sym x ∙ y) in
       let c = w.0 in
       let same_site : s ≡ r = omega (arith, c, l, m) in
@@ -101,11 +101,11 @@ module _ (h : List Op) (o : ObjectId) (ls : List (List Setter)) (logs : AreLogsO
             ∙ (ap (λ z. slice_get (setters ls z r) q) same ∙ b)))),
       )
 
-  -- a number has one position
-  pub one_position : (n q r : ℕ) → IsNumber ls n q → IsNumber ls n r → q ≡ r
+  -- a key has one position
+  pub one_position : (n q r : ℕ) → IsKey ls n q → IsKey ls n r → q ≡ r
   one_position n q r k m =
       let w = one_setter n k.attribute m.attribute k.site m.site k.index m.index k.setter m.setter
-      k.within m.within k.at m.at k.number m.number in
+      k.within m.within k.at m.at k.key m.key in
       sym k.position ∙ (ap (λ (z : Setter). z.position) w.2 ∙ m.position)
 
   -- setters with one number at their site have one index
@@ -131,9 +131,9 @@ module _ (h : List Op) (o : ObjectId) (ls : List (List Setter)) (logs : AreLogsO
         ]
       ]
 
-  -- a position has one number
-  pub one_number : (m n q : ℕ) → IsNumber ls m q → IsNumber ls n q → m ≡ n
-  one_number m n q k l =
+  -- a position has one key
+  pub one_key : (m n q : ℕ) → IsKey ls m q → IsKey ls n q → m ≡ n
+  one_key m n q k l =
       let i = logs.each k.attribute k.site k.index k.setter k.within k.at in
       let j = logs.each l.attribute l.site l.index l.setter l.within l.at in
       let there : k.setter.position ≡ l.setter.position = k.position ∙ sym l.position in
@@ -149,39 +149,39 @@ module _ (h : List Op) (o : ObjectId) (ls : List (List Setter)) (logs : AreLogsO
       (subst (λ z. slice_get (setters ls z k.site) k.index ≡ Some k.setter) attribute k.at) in
       let index = one_index l.attribute l.site k.index l.index k.setter l.setter l.within at l.at
       seq in
-      k.number ∙ (ap (λ z. log_number (log_of z k.site) k.index) attribute
-      ∙ (ap (λ z. log_number (log_of l.attribute z) k.index) site
-      ∙ (ap (log_number (log_of l.attribute l.site)) index ∙ sym l.number)))
+      k.key ∙ (ap (λ z. log_key (log_of z k.site) k.index) attribute
+      ∙ (ap (λ z. log_key (log_of l.attribute z) k.index) site
+      ∙ (ap (log_key (log_of l.attribute l.site)) index ∙ sym l.key)))
 
-  -- numbers lie below those of all logs
-  pub number_below : (n q : ℕ) → IsNumber ls n q → n < FIRST_ABOVE
-  number_below n q k =
+  -- keys lie below those of all logs
+  pub key_below : (n q : ℕ) → IsKey ls n q → n < FIRST_ABOVE
+  key_below n q k =
       let r = attribute_index_below k.attribute in
       let l = k.within in
       let p = index_short k.attribute k.site k.index k.setter k.within k.at in
-      let e = k.number in
+      let e = k.key in
       omega (arith, r, l, p, e)
 
-  -- a number's position is in the history
-  pub number_within : (n q : ℕ) → IsNumber ls n q → q < length h
-  number_within n q k =
+  -- a key's position is in the history
+  pub key_within : (n q : ℕ) → IsKey ls n q → q < length h
+  key_within n q k =
       let i = logs.each k.attribute k.site k.index k.setter k.within k.at in
       subst (λ z. z < length h) k.position (got_at h k.setter.position i.op i.at).0
 
-  -- a setter's number leads to its position
-  pub position_is : (n q : ℕ) → IsNumber ls n q → position_of ls n ≡ Some q
+  -- a setter's key leads to its position
+  pub position_is : (n q : ℕ) → IsKey ls n q → position_of ls n ≡ Some q
   position_is n q k =
-      let w = setter_of-log_number (log_of k.attribute k.site) k.index n
-      (index_short k.attribute k.site k.index k.setter k.within k.at) k.number in
+      let w = setter_of-log_key (log_of k.attribute k.site) k.index n
+      (index_short k.attribute k.site k.index k.setter k.within k.at) k.key in
       ap (λ z. option_map (λ (e : Setter). e.position)
       (slice_get (get_or ls z []) (setter_of n).index)) w.0
       ∙ (ap (λ z. option_map (λ (e : Setter). e.position)
       (slice_get (setters ls k.attribute k.site) z)) w.1
       ∙ (ap (option_map (λ (e : Setter). e.position)) k.at ∙ ap Some k.position))
 
-  -- and only a setter's number leads to one
-  pub number_from : (n q : ℕ) → position_of ls n ≡ Some q → IsNumber ls n q
-  number_from n q f =
+  -- and only a setter's key leads to one
+  pub key_from : (n q : ℕ) → position_of ls n ≡ Some q → IsKey ls n q
+  key_from n q f =
       let k = (setter_of n).log in
       let p = (setter_of n).index in
       let w = setter_found (slice_get (get_or ls k []) p) q f in
@@ -191,13 +191,13 @@ module _ (h : List Op) (o : ObjectId) (ls : List (List Setter)) (logs : AreLogsO
         | inr l ↦ absurd (let e : slice_get [] p ≡ Some w.0 = ap (λ z. slice_get z p)
             (sym (past_end ls k (omega (arith, l, all)))) ∙ w.1 in cc)
       ] in
-      subst (λ z. IsNumber ls z q) (sym (number_of-setter_of n))
-      (subst (IsNumber ls (log_number k p)) w.2 (number_in ls k p w.0 inside w.1))
+      subst (λ z. IsKey ls z q) (sym (key_of-setter_of n))
+      (subst (IsKey ls (log_key k p)) w.2 (key_in ls k p w.0 inside w.1))
 
-  -- a number of no setter has no position
-  pub position_none : (n : ℕ) → ((q : ℕ) → ¬ (IsNumber ls n q)) → position_of ls n ≡ None
+  -- a key of no setter has no position
+  pub position_none : (n : ℕ) → ((q : ℕ) → ¬ (IsKey ls n q)) → position_of ls n ≡ None
   position_none n f = by_case (position_of ls n) refl
     where
       by_case : (r : Option ℕ) → position_of ls n ≡ r → r ≡ None
       by_case None e = refl
-      by_case (Some q) e = absurd (f q (number_from n q e))
+      by_case (Some q) e = absurd (f q (key_from n q e))
