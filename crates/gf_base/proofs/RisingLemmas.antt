@@ -1,11 +1,12 @@
 -- Lists that rise strictly: two with the same elements are one. The crates above cite them.
-use Rattle.std.proofs.Common.{◌≡◌, List, [], ◌∷◌, ◌++◌, sym, subst, ◌∙◌, refl, inl, inr}
+use Rattle.std.proofs.Common.{◌≡◌, ◌<◌, ℕ, List, [], ◌∷◌, ◌++◌, sym, subst, ◌∙◌, refl, inl, inr}
 use Rattle.std.specs.Prelude.{All, Contains, ◌↔◌}
 use Rattle.std.specs.Cmp.{IsTotalOrder}
 use Rattle.std.specs.List.Sorted.{IsStrictlySortedBy}
+use Rattle.std.specs.Ordering.{nat_cmp, MatchOrdering}
 use Rattle.std.specs.declared.cmp.Ordering.{Ordering}
 use Rattle.std.specs.declared.cmp.Ordering.TheVariants.{Less}
-use Rattle.std.proofs.lemmas.Cmp.{tied_itself}
+use Rattle.std.proofs.lemmas.Cmp.{ranked, tied_itself}
 use Rattle.std.proofs.lemmas.List.Elements.{All-contains, All-from_recursion, recursion_from_All}
 use Rattle.std.proofs.lemmas.List.Elements.{All-nil, All-push, All-weaker, All-contains_itself}
 use Rattle.std.proofs.lemmas.List.Elements.{Contains-append_left, Contains-append_right}
@@ -91,3 +92,7 @@ module _ {X : Type 0} (R : X → X → Ordering) (total : IsTotalOrder R) where
         (Contains-append_right xs (y ∷ ys) y (Contains-cons_head y ys)))
     | inr i ↦ rising_below xs y ys (sorted_tail R x (xs ++ y ∷ ys) s) a i
   ]
+
+pub below_from_less : (a b : ℕ) → nat_cmp a b ≡ Less → a < b
+below_from_less a b e = subst (λ (o : Ordering). MatchOrdering o (a < b) (a ≡ b) (b < a)) e
+    (ranked a b (nat_cmp a b) refl)

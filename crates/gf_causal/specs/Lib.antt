@@ -4,3 +4,4 @@ pub mod DeliveredPart
 pub mod Keeping
 pub mod KeptEntries
 pub mod Waiting
+pub mod Blocking

@@ -5,7 +5,7 @@ use Rattle.std.specs.List.{enumerate_from, slice_split}
 use Rattle.std.proofs.lemmas.Bool.{cases_Bool, cond-true, cond-false}
 use Rattle.gf_base.proofs.FilterLemmas.{Contains-filter}
 use Rattle.gf_base.proofs.ListLemmas.{Contains-cons_cases, not_Contains-nil}
-use Rattle.gf_maximal.proofs.PairLemmas.{AllPairs-append}
+use Rattle.gf_base.proofs.PairLemmas.{AllPairs-append}
 use Rattle.gf_streams.specs.TextLines.{is_blank, is_line_end, numbered_lines}
 use Rattle.gf_ops.specs.declared.op.OpId.{OpId}
 use Rattle.gf_ops.specs.declared.faults.OpFault.{OpFault}

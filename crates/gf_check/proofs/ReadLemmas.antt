@@ -26,7 +26,7 @@ use Rattle.gf_replay.specs.Taking.{HasTaken}
 use Rattle.gf_replay.proofs.ReadingLemmas.{RefusesText-line}
 use Rattle.gf_replay.proofs.TakingLemmas.{HasTaken-moves, HasTaken-offer, delivers, other_taken}
 use Rattle.gf_replay.proofs.TakingLemmas.{taken_delivery}
-use Rattle.gf_replicas.proofs.GrowingLemmas.{valid_nil}
+use Rattle.gf_site.proofs.ValidLemmas.{valid_nil}
 use Rattle.gf_edit.specs.declared.entries.Entry.{Entry}
 use Rattle.gf_edit.specs.declared.entries.Entry.TheVariants as entry
 use Rattle.gf_edit.specs.EditedText.{denotes_entry, entry_at, op_in, ops_in}

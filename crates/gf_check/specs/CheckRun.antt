@@ -2,7 +2,7 @@
 use Rattle.std.specs.Prelude.{◌≡◌, ℕ, List, [], Option}
 use Rattle.gf_check.specs.AllFaults.{TellsFaults}
 use Rattle.gf_check.specs.CheckedText.{DenotesSome}
-use Rattle.gf_studio.specs.RunAnswers.{WritesText}
+use Rattle.gf_run.specs.RunAnswers.{WritesText}
 use Rattle.gf_check.specs.declared.checks.Verdict.{Verdict}
 use Rattle.gf_check.specs.declared.checks.Verdict.TheVariants.{Clean, Faulty}
 

@@ -2,15 +2,15 @@
 
 ghost use Rattle.std.specs.Prelude.{◌≢◌, IfSome, IfOk, IfErr, List, ℕ, Option};
 ghost use Rattle.gf_ops.specs.OperationOrder.{IsSite};
-ghost use Rattle.gf_studio.specs.RefusedRuns.{IsOfRun};
-ghost use Rattle.gf_studio.specs.RunAnswers.{LeavesSink, ReadsInput};
+ghost use Rattle.gf_run.specs.RefusedRuns.{IsOfRun};
+ghost use Rattle.gf_run.specs.RunAnswers.{LeavesSink, ReadsInput};
 ghost use Rattle.gf_check.specs.AllFaults.{AnswersText};
 ghost use Rattle.gf_check.specs.CheckRun.{Checks, WritesCheck};
 
 use crate::faults_of;
 use gf_base::OutOfMemory;
+use gf_run::{StudioError, input};
 use gf_streams::{Sink, SinkFault, Source, write_whole};
-use gf_studio::{StudioError, input};
 use std::alloc::Global;
 
 /// What a check found.

@@ -1,7 +1,7 @@
 //! The forms of the values of operation lines and command lines.
 
 use crate::keys::Key;
-use gf_digits::rgb_of_hex;
+use gf_plane::rgb_of_hex;
 use serde_json::Value;
 
 /// What has to stand at a key.

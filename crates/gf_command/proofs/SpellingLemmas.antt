@@ -13,7 +13,7 @@ use Rattle.std.proofs.lemmas.Bool.Decides.{nat_tests}
 use Rattle.clap.specs.Words.{Text, without_minus}
 use Rattle.gf_command.specs.Spelling.{AreOfId, AreOfPoint, SpellsId, SpellsPoint}
 use Rattle.gf_ops.specs.declared.op.OpId.{OpId}
-use Rattle.gf_shape.specs.declared.point.Point.{Point}
+use Rattle.gf_plane.specs.declared.point.Point.{Point}
 
 -- no byte of the text is c
 abbrev Lacks : ℕ → Text → Type 0

@@ -8,7 +8,7 @@ use Rattle.gf_studio.specs.FigRun.{Exports, IsFigOf, IsNamedOf, Writes, WritesNa
 use Rattle.gf_studio.specs.InspectRun.{AnswersQuery, WritesAnswer}
 use Rattle.gf_studio.specs.PaintRun.{WritesPicture}
 use Rattle.gf_studio.specs.PictureRun.{IsShownBy, IsWindowOf, Paints, PaintsBands}
-use Rattle.gf_studio.specs.RunAnswers.{WritesPrefix}
+use Rattle.gf_run.specs.RunAnswers.{WritesPrefix}
 use Rattle.gf_import.specs.ImportRun.{Imports, WritesImport}
 use Rattle.gf_edit.specs.declared.made.Made.{Made}
 use Rattle.gf_edit.specs.EditRun.{IsEditOf, WritesEdit}

@@ -3,7 +3,7 @@
 use Rattle.std.specs.Prelude.{◌≡◌, ℕ, ℤ, ◌∷◌, ◌++◌, IsTrue}
 use Rattle.std.specs.Str.Parse.{IsNumeral, digits_value, signed_digits_value}
 use Rattle.clap.specs.Words.{Text, without_minus}
-use Rattle.gf_shape.specs.declared.point.Point.{Point}
+use Rattle.gf_plane.specs.declared.point.Point.{Point}
 use Rattle.gf_ops.specs.declared.op.OpId.{OpId}
 use Rattle.gf_ops.specs.Limits.{is_id}
 

@@ -2,7 +2,7 @@
 use Rattle.std.proofs.Common.{◌≡◌, ℕ, Bool, List, inl, inr, sym, ◌∙◌}
 use Rattle.std.specs.Prelude.{Contains, Option, Some, None}
 use Rattle.gf_maximal.specs.LargestSets.{IsLargest, AreLargestSets}
-use Rattle.gf_maximal.proofs.PairLemmas.{Pairs-from}
+use Rattle.gf_base.proofs.PairLemmas.{Pairs-from}
 use Rattle.gf_components.specs.Components.{ComponentState, ComponentsState, alone, whole}
 use Rattle.gf_components.specs.Separate.{Apart, AreSetsKept, AreComponents}
 use Rattle.gf_components.proofs.ComponentLemmas.{all_of_fold}

@@ -20,12 +20,12 @@ use Rattle.gf_base.proofs.ListLemmas.{not_Contains-nil}
 use Rattle.gf_maximal.specs.Growing.{is_in, is_disjoint, without, common}
 use Rattle.gf_maximal.specs.Growing as sets
 use Rattle.gf_maximal.specs.LargestSets.{IsRising}
-use Rattle.gf_maximal.specs.Pairs.{Pairs}
-use Rattle.gf_maximal.proofs.InsertLemmas.{inserted, holds}
+use Rattle.gf_base.specs.Pairs.{Pairs}
+use Rattle.gf_base.proofs.InsertLemmas.{inserted, holds}
 use Rattle.gf_maximal.proofs.LargestLemmas.{IsConflict}
 use Rattle.gf_base.proofs.FilterLemmas.{Contains-filter}
 use Rattle.gf_base.proofs.RisingLemmas.{rising_nil}
-use Rattle.gf_maximal.proofs.PairLemmas.{Pairs-append, Pairs-filter}
+use Rattle.gf_base.proofs.PairLemmas.{Pairs-append, Pairs-filter}
 use Rattle.gf_maximal.proofs.MaximalLemmas.{in_list, from_list, out_of, intersects_from}
 use Rattle.gf_maximal.proofs.MaximalLemmas.{intersects_none}
 use Rattle.gf_maximal.proofs.MaximalLemmas.{Contains-without}

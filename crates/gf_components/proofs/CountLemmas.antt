@@ -1,17 +1,16 @@
 -- How many largest sets numbers have, and what is kept of them.
-use Rattle.std.proofs.Common.{◌≡◌, ◌≢◌, ℕ, zero, suc, ◌+◌, ◌*◌, ◌≤◌, ◌<◌, Bool, List, [], ◌∷◌, ◌++◌}
-use Rattle.std.proofs.Common.{map, length, inl, inr, refl, subst, sym, ◌∙◌, arith, append_assoc}
-use Rattle.std.specs.Prelude.{◌⊎◌, ◌↔◌, All, AllPairs, Contains, Option, Some, None, nat_le, filter}
+use Rattle.std.proofs.Common.{◌≡◌, ℕ, ◌+◌, ◌*◌, ◌≤◌, ◌<◌, Bool, List, [], ◌∷◌, ◌++◌}
+use Rattle.std.proofs.Common.{map, length, inl, inr, refl, subst, sym, arith, append_assoc}
+use Rattle.std.specs.Prelude.{Contains, Option, Some, None, nat_le, filter}
 use Rattle.std.specs.Prelude.{not}
 use Rattle.std.specs.Ordering.{nat_cmp}
 use Rattle.std.proofs.Math.Nat.{mul-one, mul_comm, mul-le-mul_left, suc-mul, zero-mul}
 use Rattle.std.proofs.lemmas.Bool.{cases_Bool, cond-true, cond-false, leb-true, leb-false}
 use Rattle.std.proofs.lemmas.Cmp.{nat_cmp_total}
 use Rattle.std.proofs.lemmas.List.{length-append, length-map, append-nil}
-use Rattle.std.proofs.lemmas.List.Elements.{All-contains, Contains-append_left, Contains-push}
+use Rattle.std.proofs.lemmas.List.Elements.{Contains-append_left, Contains-push}
 use Rattle.std.proofs.lemmas.List.Elements.{Contains-push_cases}
-use Rattle.gf_base.proofs.ListLemmas.{Contains-cons_cases, Contains-cons_head, Contains-cons_tail}
-use Rattle.gf_base.proofs.ListLemmas.{not_Contains-nil}
+use Rattle.gf_base.proofs.CountLemmas.{equally_long}
 use Rattle.gf_base.proofs.FilterLemmas.{Contains-filter}
 use Rattle.gf_base.proofs.RisingLemmas.{rising_front, rising_below, never_both}
 use Rattle.gf_maximal.specs.Growing.{intersects, is_disjoint, without, joined, maximal, united}
@@ -23,58 +22,6 @@ use Rattle.gf_components.specs.Separate.{Apart, AreSetsKept}
 use Rattle.gf_components.specs.Components.{most_sets, kept, products, kept_products, times}
 use Rattle.gf_components.specs.Components.{grown_sets}
 use Rattle.gf_components.proofs.ProductLemmas.{largest_product}
-
--- ---- lists of the same different elements are equally long
-
-module _ {X : Type 0} where
-  -- the list ks with x taken out of it
-  pub record Without (x : X) (ks : List X) : Type 0 where
-    pub rest : List X
-    pub shorter : length ks ≡ length rest + 1
-    pub keeps : (y : X) → Contains ks y → (y ≡ x) ⊎ Contains rest y
-
-  pub taken_out : (x : X) (ks : List X) → Contains ks x → Without x ks
-  taken_out x [] h = absurd (not_Contains-nil x h)
-  taken_out x (k ∷ ks) h = elim (Contains-cons_cases k ks x h) [
-    | inl e ↦ record {
-      rest = ks;
-      shorter = omega arith;
-      keeps = λ y i. elim (Contains-cons_cases k ks y i)
-          [ inl d ↦ inl (d ∙ sym e) | inr j ↦ inr j ];
-    }
-    | inr i ↦ let w = taken_out x ks i in record {
-      rest = k ∷ w.rest;
-      shorter = let s = w.shorter in omega arith;
-      keeps = λ y j. elim (Contains-cons_cases k ks y j) [
-        | inl d ↦ inr (subst (Contains (k ∷ w.rest)) (sym d) (Contains-cons_head k w.rest))
-        | inr l ↦ elim (w.keeps y l) [
-          | inl d ↦ inl d
-          | inr r ↦ inr (Contains-cons_tail k w.rest y r)
-        ]
-      ];
-    }
-  ]
-
-  pub no_longer : (gs ks : List X) → AllPairs (λ a b. a ≢ b) gs
-      → ((x : X) → Contains gs x → Contains ks x) → length gs ≤ length ks
-  no_longer [] ks p f = omega arith
-  no_longer (g ∷ gs) ks p f =
-      let w = taken_out g ks (f g (Contains-cons_head g gs)) in
-      let head : All (λ x. g ≢ x) gs = λ k d l. p zero (suc k) d (omega arith) (omega arith) in
-      let r = no_longer gs w.rest (λ i j d l m. p (suc i) (suc j) d (omega arith) (omega arith))
-      (λ x i. elim (w.keeps x (f x (Contains-cons_tail g gs x i))) [
-        | inl e ↦ absurd (All-contains (λ z. g ≢ z) gs x head i (sym e))
-        | inr j ↦ j
-      ]) in
-      let s = w.shorter in
-      omega arith
-
-  pub equally_long : (gs ks : List X) → AllPairs (λ a b. a ≢ b) gs → AllPairs (λ a b. a ≢ b) ks
-      → ((x : X) → Contains gs x ↔ Contains ks x) → length gs ≡ length ks
-  equally_long gs ks p q f =
-      let a = no_longer gs ks p (λ x. (f x).0) in
-      let b = no_longer ks gs q (λ x. (f x).1) in
-      omega (arith, a, b)
 
 -- ---- numbers of groups
 

@@ -12,7 +12,7 @@ use Rattle.std.proofs.lemmas.Cmp.{nat_cmp_total}
 use Rattle.std.proofs.lemmas.List.Elements.{filter-append}
 use Rattle.std.proofs.lemmas.List.Quantifiers.{position-Some}
 use Rattle.gf_maximal.specs.Growing.{is_in, intersects, is_disjoint, without, common, joined}
-use Rattle.gf_maximal.proofs.InsertLemmas.{holds}
+use Rattle.gf_base.proofs.InsertLemmas.{holds}
 use Rattle.gf_maximal.proofs.MaximalLemmas.{in_list}
 use Rattle.gf_components.specs.Components.{ComponentState, ComponentsState, alone, merged, touches}
 use Rattle.gf_components.specs.Components.{touched, grown, stays, connected}

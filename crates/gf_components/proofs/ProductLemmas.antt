@@ -19,7 +19,7 @@ use Rattle.gf_components.specs.Separate.{Apart}
 use Rattle.gf_maximal.proofs.LargestLemmas.{IsConflict, largest_alike}
 use Rattle.gf_base.proofs.FilterLemmas.{Contains-filter}
 use Rattle.gf_base.proofs.RisingLemmas.{one_rising}
-use Rattle.gf_maximal.proofs.PairLemmas.{AllPairs-map, AllPairs-append}
+use Rattle.gf_base.proofs.PairLemmas.{AllPairs-map, AllPairs-append}
 
 -- ---- as predicates
 

@@ -9,7 +9,7 @@ use Rattle.gf_maximal.proofs.LargestLemmas.{IsConflict}
 use Rattle.gf_maximal.proofs.MaximalLemmas.{intersects_from}
 use Rattle.gf_maximal.specs.Growing.{united}
 use Rattle.gf_maximal.proofs.UnitedLemmas.{Contains-united}
-use Rattle.gf_maximal.proofs.PairLemmas.{Pairs-two}
+use Rattle.gf_base.proofs.PairLemmas.{Pairs-two}
 use Rattle.gf_components.specs.Components.{ComponentState, ComponentsState, IsReached, alone}
 use Rattle.gf_components.specs.Components.{touches, whole}
 use Rattle.gf_components.specs.Separate.{Apart, AreComponents}

@@ -2,7 +2,7 @@
 use Rattle.std.specs.Prelude.{◌≡◌, ◌≢◌, ◌↔◌, ℕ, ◌<◌, ◌≤◌, Bool, true}
 use Rattle.std.specs.Prelude.{false, List, Contains}
 use Rattle.std.specs.Prelude.{length, Option, Some, None}
-use Rattle.gf_maximal.specs.Pairs.{Pairs}
+use Rattle.gf_base.specs.Pairs.{Pairs}
 use Rattle.gf_maximal.specs.LargestSets.{IsRising, AreLargestSets}
 use Rattle.gf_components.specs.Components.{ComponentState, ComponentsState, most_sets, whole}
 

@@ -6,13 +6,13 @@ use Rattle.std.specs.Prelude.{All, find, option_map, unwrap_or}
 use Rattle.std.specs.List.{enumerate_from, list_any, range_with_len}
 use Rattle.std.proofs.lemmas.Bool.{cases_Bool}
 use Rattle.std.proofs.lemmas.List.Elements.{All-head, All-tail}
-use Rattle.gf_shape.specs.declared.colour.Rgb.{Rgb}
-use Rattle.gf_shape.specs.declared.point.Point.{Point}
+use Rattle.gf_plane.specs.declared.colour.Rgb.{Rgb}
+use Rattle.gf_plane.specs.declared.point.Point.{Point}
 use Rattle.gf_shape.specs.declared.any_shape.AnyShape.{AnyShape}
 use Rattle.gf_shape.specs.Outlines.{any_outline}
 use Rattle.gf_shape.specs.ShapeMeaning.{any_holds}
 use Rattle.gf_shape.specs.Laws.Shapes.{any_outlines}
-use Rattle.gf_shape.specs.White.{white}
+use Rattle.gf_plane.specs.White.{white}
 use Rattle.gf_ops.specs.declared.op.Op.{Op}
 use Rattle.gf_versions.specs.declared.placed.Placed.{Placed}
 use Rattle.gf_versions.specs.HistoryColour.{HistoryColour}

@@ -18,7 +18,7 @@ use Rattle.gf_causal.proofs.HeldLemmas.{ids_total}
 use Rattle.gf_site.specs.ReplicaState.{ReplicaState}
 use Rattle.gf_replay.specs.Taking.{HasTaken}
 use Rattle.gf_replay.specs.Waiting.{AreWaiting}
-use Rattle.gf_edit.specs.EditedText.{Blocks}
+use Rattle.gf_causal.specs.Blocking.{Blocks}
 use Rattle.gf_edit.specs.EditRun.{IsFirstBlocking}
 use Rattle.gf_edit.specs.Waiting.{is_blocking}
 

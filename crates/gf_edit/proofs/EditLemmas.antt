@@ -9,7 +9,7 @@ use Rattle.gf_causal.specs.HeldOperations.{AreHeld}
 use Rattle.gf_site.specs.SiteState.{SiteState, at_site}
 use Rattle.gf_replay.specs.Denoting.{AreLinesOf}
 use Rattle.gf_replay.proofs.TakingLemmas.{delivers}
-use Rattle.gf_studio.specs.declared.studio_error.StudioError.TheVariants as studio
+use Rattle.gf_run.specs.declared.studio_error.StudioError.TheVariants as studio
 use Rattle.gf_edit.specs.declared.edit_command.EditCommand.{EditCommand}
 use Rattle.gf_edit.specs.declared.edit_error.EditError.{EditError}
 use Rattle.gf_edit.specs.declared.edit_error.EditError.TheVariants as edit

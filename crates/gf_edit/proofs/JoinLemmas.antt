@@ -24,11 +24,12 @@ use Rattle.gf_causal.proofs.FinishLemmas.{delivery-push}
 use Rattle.gf_site.specs.SiteState.{authored}
 use Rattle.gf_site.proofs.CourseLemmas.{all_ready}
 use Rattle.gf_replay.specs.Denoting.{Delivers, Denotes}
-use Rattle.gf_replicas.proofs.GrowingLemmas.{valid_push}
+use Rattle.gf_site.proofs.ValidLemmas.{valid_push}
 use Rattle.gf_edit.specs.declared.numbered.Numbered.{Numbered}
 use Rattle.gf_edit.specs.Making.{Makes, none, author, await, keep}
-use Rattle.gf_edit.proofs.EachLemmas.{each_accepted, each_count, each_more, each_own, each_valid}
-use Rattle.gf_edit.specs.EditedText.{Blocks, JoinsEdit, commands_in, ops_in}
+use Rattle.gf_site.proofs.EachLemmas.{each_accepted, each_count, each_more, each_own, each_valid}
+use Rattle.gf_causal.specs.Blocking.{Blocks}
+use Rattle.gf_edit.specs.EditedText.{JoinsEdit, commands_in, ops_in}
 
 -- a site that makes an operation more has one more in its history
 put_behind : (h new : List Op) (a : Op) (P : List Op → Type 0) → P ((h ++ new) ++ a ∷ [])

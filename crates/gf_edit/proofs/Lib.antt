@@ -5,5 +5,4 @@ pub mod BlockingLemmas
 pub mod EditLemmas
 pub mod WrittenLemmas
 pub mod CleanLemmas
-pub mod EachLemmas
 mod WritingLemmas

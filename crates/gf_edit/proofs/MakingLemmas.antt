@@ -14,10 +14,10 @@ use Rattle.gf_ops.specs.declared.change.Change.{Change}
 use Rattle.gf_ops.specs.Limits.{IsInRange}
 use Rattle.gf_ops.specs.Accepted.{IsAccepted}
 use Rattle.gf_site.specs.SiteState.{SiteState, authored}
-use Rattle.gf_studio.specs.declared.studio_error.StudioError.TheVariants as studio
+use Rattle.gf_run.specs.declared.studio_error.StudioError.TheVariants as studio
 use Rattle.gf_worker.specs.Turns.{AwaitAnswer}
 use Rattle.gf_keep.specs.Keeping.{AreKeeping}
-use Rattle.gf_keep.specs.MadeOf.{MakesEach}
+use Rattle.gf_site.specs.MadeEach.{MakesEach}
 use Rattle.gf_keep.specs.declared.keep.Keep.{Keep}
 use Rattle.gf_edit.specs.declared.edit_command.EditCommand.{EditCommand}
 use Rattle.gf_edit.specs.declared.edit_command.EditCommand.TheVariants.{Author, Await}

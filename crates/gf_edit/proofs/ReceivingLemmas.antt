@@ -22,7 +22,7 @@ use Rattle.gf_replay.specs.declared.reading_error.ReadingError.TheVariants as re
 use Rattle.gf_replay.specs.Taking.{DropsBehind, HasTaken, RefusesOp, of_line}
 use Rattle.gf_replay.proofs.TakingLemmas.{HasTaken-moves, HasTaken-offer, delivers, other_taken}
 use Rattle.gf_replay.proofs.TakingLemmas.{taken_delivery}
-use Rattle.gf_replicas.proofs.GrowingLemmas.{valid_nil}
+use Rattle.gf_site.proofs.ValidLemmas.{valid_nil}
 use Rattle.gf_edit.specs.declared.entries.Entry.{Entry}
 use Rattle.gf_edit.specs.declared.entries.Entry.TheVariants as entry
 use Rattle.gf_edit.specs.declared.reading.ReadLines.{ReadLines}

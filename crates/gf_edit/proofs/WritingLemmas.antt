@@ -8,7 +8,7 @@ use Rattle.std.proofs.lemmas.List.Elements.{Contains-push_cases}
 use Rattle.gf_base.proofs.ListLemmas.{not_Contains-nil}
 use Rattle.gf_json.specs.OperationLines.{denoted}
 use Rattle.gf_json.specs.WrittenLines.{op_text}
-use Rattle.gf_keep.specs.MadeOf.{none as each_none}
+use Rattle.gf_site.specs.MadeEach.{none as each_none}
 use Rattle.gf_ops.specs.declared.op.Op.{Op}
 use Rattle.gf_ops.specs.declared.change.Change.{Change}
 use Rattle.gf_ops.specs.Accepted.{IsAccepted}
@@ -19,7 +19,7 @@ use Rattle.gf_edit.specs.declared.made.Made.{Made}
 use Rattle.gf_edit.specs.MadeOperations.{made_until}
 use Rattle.gf_edit.specs.Making.{written_line, written_lines}
 use Rattle.gf_edit.specs.MakingSteps.{WritesEach, WritesOp, told_after}
-use Rattle.gf_edit.proofs.EachLemmas.{each_push}
+use Rattle.gf_site.proofs.EachLemmas.{each_push}
 
 told_push : (m : Option Made) (ops : List Op) (a : Op)
     → told_after m (ops ++ a ∷ []) ≡ Some (made_until (told_after m ops) a.id)

@@ -8,10 +8,10 @@ use Rattle.gf_ops.specs.Accepted.{AreAccepted}
 use Rattle.gf_ops.specs.OperationOrder.{id_cmp}
 use Rattle.gf_causal.specs.Waiting.{waits_for}
 use Rattle.gf_replay.specs.Denoting.{AreLinesOf, Delivers}
-use Rattle.gf_studio.specs.declared.studio_error.StudioError.{StudioError}
-use Rattle.gf_studio.specs.declared.studio_error.StudioError.TheVariants as studio
-use Rattle.gf_studio.specs.RefusedRuns.{IsOfRun}
-use Rattle.gf_studio.specs.RunAnswers.{WritesText}
+use Rattle.gf_run.specs.declared.studio_error.StudioError.{StudioError}
+use Rattle.gf_run.specs.declared.studio_error.StudioError.TheVariants as studio
+use Rattle.gf_run.specs.RefusedRuns.{IsOfRun}
+use Rattle.gf_run.specs.RunAnswers.{WritesText}
 use Rattle.gf_edit.specs.declared.entries.Entry.{Entry}
 use Rattle.gf_edit.specs.declared.edit_error.EditError.{EditError}
 use Rattle.gf_edit.specs.declared.edit_error.EditError.TheVariants as edit
@@ -20,7 +20,8 @@ use Rattle.gf_edit.specs.MadeOperations.{made_of}
 use Rattle.gf_edit.specs.Making.{HasRefused, written_lines}
 use Rattle.gf_edit.specs.RefusedCommands.{KeepsNone, RefusesFor}
 use Rattle.gf_edit.specs.declared.edit_command.EditCommand.{EditCommand}
-use Rattle.gf_edit.specs.EditedText.{AreEntriesOf, Blocks, DenotesEdit, AreDelivered}
+use Rattle.gf_causal.specs.Blocking.{Blocks}
+use Rattle.gf_edit.specs.EditedText.{AreEntriesOf, DenotesEdit, AreDelivered}
 use Rattle.gf_edit.specs.EditedText.{commands_in, ops_in}
 use Rattle.gf_edit.specs.EditFaults.{DropsAt, HasLineFault}
 

@@ -1,11 +1,11 @@
 -- What the text of an edit denotes (this project's choice, over causal delivery).
-use Rattle.std.specs.Prelude.{◌≡◌, ◌⊎◌, ℕ, ◌<◌, List, [], ◌∷◌, ◌++◌}
+use Rattle.std.specs.Prelude.{◌≡◌, ℕ, List, [], ◌∷◌, ◌++◌}
 use Rattle.std.specs.Prelude.{Contains, Ok, flat_map, map}
 use Rattle.gf_streams.specs.TextLines.{numbered_lines}
 use Rattle.gf_ops.specs.declared.op.Op.{Op}
-use Rattle.gf_ops.specs.OperationOrder.{entry, count_of}
 use Rattle.gf_ops.specs.Accepted.{AreAccepted}
 use Rattle.gf_json.specs.LineValues.{Got}
+use Rattle.gf_causal.specs.Blocking.{Blocks}
 use Rattle.gf_causal.specs.DeliveredPart.{HaveSame}
 use Rattle.gf_replay.specs.Denoting.{AreLinesOf, Delivers}
 use Rattle.gf_edit.specs.declared.entries.Entry.{Entry}
@@ -43,11 +43,6 @@ ops_in entries = flat_map (λ (e : ℕ × Entry). op_in e.1) entries
 -- the commands among entries, in order
 abbrev pub commands_in : List (ℕ × Entry) → List Numbered
 commands_in entries = flat_map (λ (e : ℕ × Entry). command_in e.0 e.1) entries
-
--- a is not in h, and is of site s or knows more operations of site s than h has
-pub record Blocks (s : ℕ) (h : List Op) (a : Op) : Type 0 where
-  pub waits : ¬ (Contains h a)
-  pub knows : (a.id.site ≡ s) ⊎ (count_of h s < entry a.past s)
 
 -- the operations of the entries deliver this history, each accepted in its turn, and none blocks
 -- site s

@@ -11,7 +11,7 @@ use Rattle.gf_json.specs.declared.line_error.LineError.{LineError}
 use Rattle.gf_replay.specs.declared.reading_error.ReadingError.{ReadingError}
 use Rattle.gf_replay.specs.declared.reading_error.ReadingError.TheVariants as reading
 use Rattle.gf_replay.specs.Taking.{HasTaken, RefusesOp, TakesOp, of_line}
-use Rattle.gf_studio.specs.declared.studio_error.StudioError.TheVariants as studio
+use Rattle.gf_run.specs.declared.studio_error.StudioError.TheVariants as studio
 use Rattle.gf_edit.specs.declared.edit_error.EditError.{EditError}
 use Rattle.gf_edit.specs.declared.edit_error.EditError.TheVariants as edit
 use Rattle.gf_edit.specs.declared.entries.Entry.{Entry}

@@ -7,7 +7,7 @@ use Rattle.gf_ops.specs.Limits.{IsInRange}
 use Rattle.gf_ops.specs.Accepted.{IsAccepted}
 use Rattle.gf_json.specs.WrittenLines.{op_text}
 use Rattle.gf_keep.specs.Keeping.{AreKeeping}
-use Rattle.gf_keep.specs.MadeOf.{MakesEach}
+use Rattle.gf_site.specs.MadeEach.{MakesEach}
 use Rattle.gf_keep.specs.declared.keep.Keep.{Keep}
 use Rattle.gf_site.specs.SiteState.{authored}
 use Rattle.gf_worker.specs.Turns.{AwaitAnswer}

@@ -4,7 +4,7 @@ use Rattle.gf_ops.specs.declared.op.Op.{Op}
 use Rattle.gf_ops.specs.declared.change.Change.{Change}
 use Rattle.gf_keep.specs.Keeping.{AreKeeping}
 use Rattle.gf_keep.specs.KeepFaults.{HasNoneKept, RefusesKeep}
-use Rattle.gf_keep.specs.MadeOf.{MakesEach}
+use Rattle.gf_site.specs.MadeEach.{MakesEach}
 use Rattle.gf_keep.specs.declared.faults.KeepFault.TheVariants as fault
 use Rattle.gf_keep.specs.declared.keep.Keep.{Keep}
 use Rattle.gf_worker.specs.declared.report.Cause.{Cause}

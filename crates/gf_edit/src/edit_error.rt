@@ -2,11 +2,11 @@
 
 ghost use Rattle.std.specs.Prelude.{◌≡◌};
 ghost use Rattle.gf_edit.specs.declared.edit_error.EditError.TheVariants as edit;
-ghost use Rattle.gf_studio.specs.Refusals.{of_reading};
+ghost use Rattle.gf_run.specs.Refusals.{of_reading};
 
 use gf_ops::OpId;
 use gf_replay::ReadingError;
-use gf_studio::StudioError;
+use gf_run::StudioError;
 use gf_worker::Cause;
 use thiserror::Error;
 

@@ -8,9 +8,8 @@
 //! - [`Made`]: the first and the last of the new operations.
 //! - [`push_line`]: appends the line of an operation.
 //! - [`EditError`]: why an edit is refused.
-//! - [`what_an_edit_writes_joins_what_it_read`],
-//!   [`what_an_edit_writes_is_drawn_with_what_it_read`]: the laws of the operations that an edit
-//!   read and wrote.
+//! - [`what_an_edit_writes_joins_what_it_read`]: the law of the operations that an edit read and
+//!   wrote.
 #![tactic(auto)]
 
 mod edit_command;
@@ -29,9 +28,7 @@ mod waiting;
 pub use edit_command::EditCommand;
 pub use edit_error::EditError;
 pub use entries::{Entry, read_entry};
-pub use laws::{
-    what_an_edit_writes_is_drawn_with_what_it_read, what_an_edit_writes_joins_what_it_read,
-};
+pub use laws::what_an_edit_writes_joins_what_it_read;
 pub use made::Made;
 pub use making::push_line;
 pub use numbered::Numbered;

@@ -15,12 +15,12 @@ ghost use Rattle.gf_edit.specs.MakingSteps.{of_author, of_keep};
 use crate::edited::Edited;
 use crate::made::until;
 use crate::{EditCommand, EditError, Numbered};
+use gf_base::OutOfMemory;
 use gf_json::op_line;
 use gf_keep::{Keep, KeepFault, keeping};
 use gf_ops::{Change, History, Op, OpId};
-use gf_shape::OutOfMemory;
+use gf_run::StudioError;
 use gf_site::{AuthorFault, Site};
-use gf_studio::StudioError;
 use gf_worker::Cause;
 use std::alloc::Global;
 
@@ -76,7 +76,7 @@ fn keep_versions(
     ensures ok { OnOk result (WritesKeep keep.now site.old site.new edited.old edited.new) }
     ensures err { IfErr result (RefusesCommand number (EditCommand.Keep keep.now) site.old) }
 {
-    match keeping(alloc, site, keep) {
+    match keeping(alloc, site.history(), keep) {
         Ok(changes) => author_each(alloc, site, edited, number, changes),
         Err(fault) => Err(keep_refusal(number, fault)),
     }

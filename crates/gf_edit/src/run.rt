@@ -2,15 +2,15 @@
 
 ghost use Rattle.std.specs.Prelude.{◌≢◌, Some, IfSome, IfOk, IfErr};
 ghost use Rattle.gf_ops.specs.OperationOrder.{IsSite};
-ghost use Rattle.gf_studio.specs.declared.studio_error.StudioError.{StudioError};
-ghost use Rattle.gf_studio.specs.RunAnswers.{LeavesSinkBy, ReadsInputBy};
+ghost use Rattle.gf_run.specs.declared.studio_error.StudioError.{StudioError};
+ghost use Rattle.gf_run.specs.RunAnswers.{LeavesSinkBy, ReadsInputBy};
 ghost use Rattle.gf_edit.specs.EditRun.{Edits, IsEditOf, RefusesEdit, WritesEdit, of_edit};
 
 use crate::edited::Edited;
 use crate::editing::edit;
 use crate::{EditError, Made};
+use gf_run::{StudioError, input};
 use gf_streams::{Sink, SinkFault, Source, write_whole};
-use gf_studio::{StudioError, input};
 use std::alloc::Global;
 
 /// Reads operation lines of any sites and command lines of this one to their end. The commands make

@@ -6,11 +6,11 @@ ghost use Rattle.gf_edit.specs.EntrySteps.{IsUnblocked, RefusesWaiting};
 ghost use Rattle.gf_edit.specs.Waiting.{is_blocking};
 
 use crate::EditError;
+use gf_base::OutOfMemory;
 use gf_causal::waits_for;
 use gf_ops::{Clock, History, Op};
-use gf_shape::OutOfMemory;
+use gf_run::StudioError;
 use gf_site::Site;
-use gf_studio::StudioError;
 use std::alloc::Global;
 
 /// Refuses the edit where one of the operations that the site holds blocks it.

@@ -4,8 +4,8 @@ use Rattle.std.proofs.Common.{map, refl, sym, ap, ◌∙◌, inl, inr, arith}
 use Rattle.std.specs.Prelude.{All, fold, Option, Some, None, option_map, unwrap_or, nat_le}
 use Rattle.std.proofs.lemmas.Bool.{cases_Bool, cases_lt, cases_eq, leb-true}
 use Rattle.std.proofs.lemmas.Bool.Decides.{nat_tests}
-use Rattle.gf_shape.specs.declared.point.Point.{Point}
-use Rattle.gf_shape.specs.White.{white}
+use Rattle.gf_plane.specs.declared.point.Point.{Point}
+use Rattle.gf_plane.specs.White.{white}
 use Rattle.gf_figures.specs.declared.figure.Figure.{Figure}
 use Rattle.gf_figures.specs.Colours.{Table}
 use Rattle.gf_figures.specs.DrawingColour.{drawing_colour, figure_colour}

@@ -5,7 +5,7 @@ use Rattle.std.proofs.Common.{drop, Option, Some, None, Result, Ok, Err, refl, a
 use Rattle.std.proofs.Common.{arith, inl, inr}
 use Rattle.std.specs.Prelude.{not, ◌&&◌, ◌==◌, nat_lt, IsTrue, ◌↔◌, pos, nat_abs}
 use Rattle.std.proofs.lemmas.Bool.{and_parts}
-use Rattle.gf_shape.specs.Reach.{is_reached}
+use Rattle.gf_plane.specs.Reach.{is_reached}
 use Rattle.gf_figures.specs.Colours.{Table}
 use Rattle.gf_fig_tokens.specs.declared.faults.FigFault.{FigFault}
 use Rattle.gf_fig_tokens.specs.declared.faults.FigFault.TheVariants as fault

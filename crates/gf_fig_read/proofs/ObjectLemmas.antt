@@ -3,8 +3,8 @@ use Rattle.std.proofs.Common.{◌≡◌, ◌≤◌, ◌<◌, ℕ, zero, suc, ◌
 use Rattle.std.proofs.Common.{◌++◌, length, length-append, Option, Some, None, Ok, Err, refl, ap}
 use Rattle.std.proofs.Common.{subst, cond, arith}
 use Rattle.std.specs.Prelude.{⊤, pos, nat_abs, ◌==◌}
-use Rattle.gf_shape.specs.declared.point.Point.{Point}
-use Rattle.gf_shape.specs.Reach.{is_reached}
+use Rattle.gf_plane.specs.declared.point.Point.{Point}
+use Rattle.gf_plane.specs.Reach.{is_reached}
 use Rattle.gf_shape.specs.declared.outline.Outline.{Outline}
 use Rattle.gf_figures.specs.Colours.{Table}
 use Rattle.gf_fig_tokens.specs.declared.faults.FigFault.{FigFault}

@@ -1,7 +1,7 @@
 //! The outlines of polylines and ellipses.
 
 ghost use Rattle.std.specs.Prelude.{◌≡◌, ◌≤◌, true, length, All, Some, IfOk, IsTrue};
-ghost use Rattle.gf_shape.specs.Reach.{is_within_reach};
+ghost use Rattle.gf_plane.specs.Reach.{is_within_reach};
 ghost use Rattle.gf_fig_tokens.specs.Fields.{StepsAs, points};
 ghost use Rattle.gf_fig_read.specs.Outlines.{same_point, is_closed, count, chain, disc, oval};
 ghost use Rattle.gf_fig_read.specs.Outlines.{ellipse};

@@ -4,8 +4,8 @@
 use Rattle.std.specs.Prelude.{◌≡◌, ℕ, zero, suc, Bool, true, ◌&&◌, List, [], ◌∷◌}
 use Rattle.std.specs.Prelude.{Option, Some, None, ⊤, Result, Ok, Err, if◌then◌else◌, ℤ}
 use Rattle.std.specs.Prelude.{pos, nat_abs, int_le}
-use Rattle.gf_shape.specs.declared.point.Point.{Point}
-use Rattle.gf_shape.specs.Reach.{is_reached}
+use Rattle.gf_plane.specs.declared.point.Point.{Point}
+use Rattle.gf_plane.specs.Reach.{is_reached}
 use Rattle.gf_fig_tokens.specs.Layout.{Token}
 use Rattle.gf_fig_tokens.specs.Forms.{whole, angle}
 use Rattle.gf_fig_tokens.specs.declared.faults.FigFault.{FigFault}

@@ -5,8 +5,8 @@ use Rattle.std.specs.Prelude.{◌||◌, ◌==◌, nat_le, List, [], ◌∷◌, l
 use Rattle.std.specs.Prelude.{Some, None, option_map, ⊤, ℤ, pos, ◌-ℤ◌}
 use Rattle.std.specs.Prelude.{if◌then◌else◌}
 use Rattle.std.specs.List.{list_all}
-use Rattle.gf_shape.specs.declared.colour.Rgb.{Rgb}
-use Rattle.gf_digits.specs.HexDigits.{rgb_of_hex}
+use Rattle.gf_plane.specs.declared.colour.Rgb.{Rgb}
+use Rattle.gf_plane.specs.HexDigits.{rgb_of_hex}
 
 -- byte b is '0' to '9'
 abbrev pub is_digit : ℕ → Bool

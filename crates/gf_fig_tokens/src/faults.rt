@@ -80,10 +80,10 @@ impl<T: Drop> From<AllocFailed<T>> for FigFault {
     }
 }
 
-impl From<gf_shape::OutOfMemory> for FigFault {
+impl From<gf_base::OutOfMemory> for FigFault {
     ghost from_gives = { λ _ e. e ≡ OutOfMemory };
 
-    fn from(_: gf_shape::OutOfMemory) -> FigFault {
+    fn from(_: gf_base::OutOfMemory) -> FigFault {
         FigFault::OutOfMemory
     }
 }

@@ -7,8 +7,7 @@ ghost use Rattle.gf_fig_tokens.specs.Forms.{is_fraction, are_digits_and_fraction
 ghost use Rattle.gf_fig_tokens.specs.Forms.{begins_with_digit};
 ghost use Rattle.gf_fig_tokens.specs.Forms.{is_zero, decimal, angle, colour};
 
-use gf_digits::rgb_of_hex;
-use gf_shape::Rgb;
+use gf_plane::{Rgb, rgb_of_hex};
 
 fn is_digit(b: u8) -> bool
     ensures { result ≡ is_digit b }

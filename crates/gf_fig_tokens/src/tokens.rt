@@ -5,7 +5,7 @@ ghost use Rattle.std.specs.Prelude.{IfSome, IfOk, IfErr, OnOk, IsTrue, Ok, Err, 
 ghost use Rattle.std.specs.Prelude.{◌+◌, false};
 ghost use Rattle.std.specs.Option.{option_map_or};
 ghost use Rattle.std.specs.Cmp.Lexicographic.{pointwise};
-ghost use Rattle.gf_shape.specs.Reach.{is_reached, is_within_reach};
+ghost use Rattle.gf_plane.specs.Reach.{is_reached, is_within_reach};
 ghost use Rattle.gf_fig_tokens.specs.Layout.{tokens, plain, lines, plain_lines, after_resolution};
 ghost use Rattle.gf_fig_tokens.specs.Layout.{object_tokens};
 ghost use Rattle.gf_fig_tokens.specs.Forms.{whole, decimal, angle, colour};
@@ -14,7 +14,7 @@ ghost use Rattle.gf_fig_tokens.specs.Stepping.{LeavesTokens};
 
 use crate::layout::{cut_line, cut_plain_line, cut_word, is_version};
 use crate::{FigFault, forms};
-use gf_shape::{Point, Rgb};
+use gf_plane::{Point, Rgb};
 use std::marker::Model;
 
 /// What is left of a line, and what follows it; seen in clauses as the tokens that they hold.
@@ -158,7 +158,7 @@ impl<'a> Tokens<'a> {
     }
 
     /// A coordinate within reach.
-    #[tactic(auto, using(std::proofs::lemmas::Int::ints), unfolding(gf_shape::specs::Reach::is_reached))]
+    #[tactic(auto, using(std::proofs::lemmas::Int::ints), unfolding(gf_plane::specs::Reach::is_reached))]
     pub fn coordinate(&mut self) -> Result<i32, FigFault>
         ensures read { StepsAs result self.new (coordinate self.old) }
         ensures within { IfOk result (λ n. IsTrue (is_reached n)) }

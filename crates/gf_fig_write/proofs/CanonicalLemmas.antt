@@ -10,19 +10,19 @@ use Rattle.std.proofs.lemmas.List.Elements.{All-cons, All-filter, All-head, All-
 use Rattle.std.proofs.lemmas.List.Elements.{All-tail, Contains-get_or}
 use Rattle.std.proofs.lemmas.List.Kept.{AllPairs-cons}
 use Rattle.gf_shape.specs.declared.any_shape.AnyShape.{AnyShape}
-use Rattle.gf_shape.specs.declared.colour.Rgb.{Rgb}
-use Rattle.gf_shape.specs.declared.point.Point.{Point}
+use Rattle.gf_plane.specs.declared.colour.Rgb.{Rgb}
+use Rattle.gf_plane.specs.declared.point.Point.{Point}
 use Rattle.gf_shape.specs.Area.{Area}
-use Rattle.gf_shape.specs.Moving.{plus}
+use Rattle.gf_plane.specs.Moving.{plus}
 use Rattle.gf_shape.specs.Oblong.{is_radius}
 use Rattle.gf_shape.specs.Outlines.{any_outline}
-use Rattle.gf_shape.specs.Polygons.{is_polygon_count}
-use Rattle.gf_shape.specs.Reach.{is_within_reach}
+use Rattle.gf_plane.specs.PointCounts.{is_polygon_count}
+use Rattle.gf_plane.specs.Reach.{is_within_reach}
 use Rattle.gf_shape.specs.ShapeLaws.{IsLawful}
 use Rattle.gf_shape.specs.ShapeMoves.{points_movable, points_moved, rect_moved}
 use Rattle.gf_shape.proofs.BoxLemmas.{IsRing-corners_again, is_area-moved}
 use Rattle.gf_shape.proofs.RingLemmas.{IsRing-ring_of}
-use Rattle.gf_shape.specs.ColourBytes.{HasBytes}
+use Rattle.gf_plane.specs.ColourBytes.{HasBytes}
 use Rattle.gf_ops.proofs.ColourLemmas.{bytes_within}
 use Rattle.gf_ops.specs.ConflictTests.{colour_eq}
 use Rattle.gf_ops.specs.Limits.{is_form, is_near, is_size}

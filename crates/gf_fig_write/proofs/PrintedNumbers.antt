@@ -12,10 +12,10 @@ use Rattle.std.proofs.lemmas.List.Folds.{list_all-append}
 use Rattle.std.proofs.lemmas.List.Sums.{fold_push}
 use Rattle.std.proofs.lemmas.Fmt.{decimal_by_steps, length-decimal-le}
 use Rattle.std.proofs.Math.Nat.{div-add-mod}
-use Rattle.gf_shape.specs.declared.colour.Rgb.{Rgb}
-use Rattle.gf_shape.specs.ColourBytes.{HasBytes}
-use Rattle.gf_digits.specs.HexDigits.{hex_rgb}
-use Rattle.gf_digits.proofs.HexLemmas.{rgb_of_hex-hex_rgb}
+use Rattle.gf_plane.specs.declared.colour.Rgb.{Rgb}
+use Rattle.gf_plane.specs.ColourBytes.{HasBytes}
+use Rattle.gf_plane.specs.HexDigits.{hex_rgb}
+use Rattle.gf_plane.proofs.HexLemmas.{rgb_of_hex-hex_rgb}
 use Rattle.gf_fig_tokens.specs.Layout.{is_filled}
 use Rattle.gf_fig_tokens.specs.Forms.{is_digit, is_sign, digits_value, whole, colour}
 use Rattle.gf_fig_write.proofs.PrintedLines.{is_dark, is_word}

@@ -7,17 +7,17 @@ use Rattle.std.specs.Fmt.{decimal, signed_decimal}
 use Rattle.std.specs.List.{list_all}
 use Rattle.std.proofs.lemmas.Bool.{and_parts, and_from, leb-true, le-ltb}
 use Rattle.std.proofs.lemmas.List.Elements.{All-head, All-tail, All-map}
-use Rattle.gf_shape.specs.declared.point.Point.{Point}
-use Rattle.gf_shape.specs.declared.colour.Rgb.{Rgb}
+use Rattle.gf_plane.specs.declared.point.Point.{Point}
+use Rattle.gf_plane.specs.declared.colour.Rgb.{Rgb}
 use Rattle.gf_shape.specs.declared.outline.Outline.{Outline}
 use Rattle.gf_shape.specs.declared.outline.Outline.TheVariants.{Chain, Disc, Oval}
-use Rattle.gf_shape.specs.Reach.{is_reached, is_within_reach}
+use Rattle.gf_plane.specs.Reach.{is_reached, is_within_reach}
 use Rattle.gf_shape.specs.Ring.{Ring}
 use Rattle.gf_shape.specs.Round.{Round, is_round}
 use Rattle.gf_shape.specs.Oblong.{Oblong, is_oblong}
 use Rattle.gf_shape.specs.ShapeLaws.{IsLawful}
-use Rattle.gf_shape.specs.ColourBytes.{HasBytes}
-use Rattle.gf_digits.specs.HexDigits.{hex_rgb}
+use Rattle.gf_plane.specs.ColourBytes.{HasBytes}
+use Rattle.gf_plane.specs.HexDigits.{hex_rgb}
 use Rattle.gf_figures.specs.declared.figure.Figure.{Figure}
 use Rattle.gf_figures.specs.DrawingState.{DrawingState, IsLawfulDrawing, IsLawfulFigure}
 use Rattle.gf_figures.specs.Colours.{Table, rgb_of}

@@ -2,12 +2,12 @@
 
 ghost use Rattle.std.specs.Prelude.{◌≡◌, [], ◌++◌, OnOk, IfSome, All, flat_map, slice_get};
 ghost use Rattle.std.specs.Prelude.{option_map, unwrap_or};
-ghost use Rattle.gf_shape.specs.ColourBytes.{HasBytes};
+ghost use Rattle.gf_plane.specs.ColourBytes.{HasBytes};
 ghost use Rattle.gf_fig_write.specs.FigText.{colour_line};
 
 use gf_base::push_number;
-use gf_digits::push_hex_rgb;
 use gf_figures::ColourTable;
+use gf_plane::push_hex_rgb;
 use gf_shape::Rgb;
 use std::alloc::AllocError;
 

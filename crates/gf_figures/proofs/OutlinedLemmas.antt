@@ -5,12 +5,12 @@ use Rattle.std.specs.Prelude.{flat_map, fold, ◌==◌, if◌then◌else◌}
 use Rattle.std.specs.List.{range_with_len}
 use Rattle.std.proofs.lemmas.Bool.{cases_Bool}
 use Rattle.std.proofs.lemmas.List.{map-append}
-use Rattle.gf_shape.specs.declared.colour.Rgb.{Rgb}
+use Rattle.gf_plane.specs.declared.colour.Rgb.{Rgb}
 use Rattle.gf_shape.specs.declared.outline.Outline.{Outline}
-use Rattle.gf_shape.specs.declared.point.Point.{Point}
+use Rattle.gf_plane.specs.declared.point.Point.{Point}
 use Rattle.gf_shape.specs.FigureMeaning.{outline_holds}
 use Rattle.gf_shape.specs.ShapeLaws.{IsOutlineOf}
-use Rattle.gf_shape.specs.White.{white}
+use Rattle.gf_plane.specs.White.{white}
 use Rattle.gf_figures.specs.declared.figure.Figure.{Figure}
 use Rattle.gf_figures.specs.Colours.{Table}
 use Rattle.gf_figures.specs.DrawingColour.{drawing_colour, figure_colour, figures_at, from_back}

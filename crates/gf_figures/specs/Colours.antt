@@ -2,8 +2,8 @@
 -- of the colours 0 to 7 are this project's choice).
 use Rattle.std.specs.Prelude.{ℕ, List, [], ◌∷◌, ◌++◌, find, ◌==◌, Option}
 use Rattle.std.specs.Prelude.{option_map}
-use Rattle.gf_shape.specs.declared.colour.Rgb.{Rgb}
-use Rattle.gf_shape.specs.White.{white}
+use Rattle.gf_plane.specs.declared.colour.Rgb.{Rgb}
+use Rattle.gf_plane.specs.White.{white}
 
 -- the colour of this red, green and blue
 abbrev pub rgb : ℕ → ℕ → ℕ → Rgb

@@ -2,7 +2,7 @@
 -- depths 0 to 999).
 use Rattle.std.specs.Prelude.{◌≢◌, ℕ, Bool, ◌&&◌, nat_le, IsTrue, List, All, AllPairs}
 use Rattle.std.specs.Prelude.{is_some, is_none}
-use Rattle.gf_shape.specs.declared.colour.Rgb.{Rgb}
+use Rattle.gf_plane.specs.declared.colour.Rgb.{Rgb}
 use Rattle.gf_figures.specs.declared.figure.Figure.{Figure}
 use Rattle.gf_figures.specs.Colours.{Table, colour_in, rgb_of}
 

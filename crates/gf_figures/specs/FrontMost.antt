@@ -1,7 +1,7 @@
 -- The figure in front at a point, found in file order. No public clause cites this module.
 use Rattle.std.specs.Prelude.{ℕ, Bool, true, ◌&&◌, nat_le, if◌then◌else◌, List, fold}
 use Rattle.std.specs.Prelude.{Option, None, Some}
-use Rattle.gf_shape.specs.declared.point.Point.{Point}
+use Rattle.gf_plane.specs.declared.point.Point.{Point}
 use Rattle.gf_figures.specs.declared.figure.Figure.{Figure}
 
 module _ {F : Type 0} (depth : F → ℕ) where

@@ -3,7 +3,7 @@
 ghost use Rattle.std.specs.Prelude.{◌≡◌, ℕ, None, [], ◌∷◌, ◌++◌, IfOk, OnOk, OnErr, map, reverse};
 ghost use Rattle.std.specs.Prelude.{option_copied, IsPermutation};
 ghost use Rattle.std.specs.List.Sorted.{IsNonDecreasingBy};
-ghost use Rattle.gf_shape.specs.declared.point.Point.{Point};
+ghost use Rattle.gf_plane.specs.declared.point.Point.{Point};
 ghost use Rattle.gf_figures.specs.Colours.{colour_in, rgb_of, standard_colours};
 ghost use Rattle.gf_figures.specs.DrawingState.{IsFreeNumber, IsLawfulDrawing, IsLawfulFigure};
 ghost use Rattle.gf_figures.specs.DrawingColour.{drawing_colour, figures_at, from_front};

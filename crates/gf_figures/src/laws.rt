@@ -1,7 +1,7 @@
 //! The law of drawings, the contract of a function that does nothing.
 
 ghost use Rattle.std.specs.Prelude.{◌≡◌};
-ghost use Rattle.gf_shape.specs.declared.point.Point.{Point};
+ghost use Rattle.gf_plane.specs.declared.point.Point.{Point};
 ghost use Rattle.gf_shape.specs.FigureMeaning.{outline_holds};
 ghost use Rattle.gf_figures.specs.DrawingColour.{drawing_colour};
 ghost use Rattle.gf_figures.specs.DrawingState.{DrawingState};

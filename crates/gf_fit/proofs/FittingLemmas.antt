@@ -7,7 +7,7 @@ use Rattle.std.proofs.lemmas.Bool.{and_from, and_parts, cases_Bool}
 use Rattle.std.proofs.Math.Nat.{mul-le-mul_right}
 use Rattle.std.proofs.lemmas.Int.{clamps, ints}
 use Rattle.gf_shape.specs.declared.bounds.Bounds.{Bounds}
-use Rattle.gf_shape.specs.declared.point.Point.{Point}
+use Rattle.gf_plane.specs.declared.point.Point.{Point}
 use Rattle.gf_shape.specs.ShapeLaws.{IsBounds}
 use Rattle.gf_scanline.specs.Frames.{Sides}
 use Rattle.gf_scanline.specs.Windows.{View, is_corner, is_step}

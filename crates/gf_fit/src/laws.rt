@@ -1,7 +1,7 @@
 //! The law of fitted windows, the contract of a function that does nothing.
 
 ghost use Rattle.std.specs.Prelude.{◌≡◌, Bool};
-ghost use Rattle.gf_shape.specs.declared.point.Point.{Point};
+ghost use Rattle.gf_plane.specs.declared.point.Point.{Point};
 ghost use Rattle.gf_scanline.specs.Frames.{Sides};
 ghost use Rattle.gf_scanline.specs.Windows.{View};
 ghost use Rattle.gf_fit.specs.FittedWindow.{IsFitted};

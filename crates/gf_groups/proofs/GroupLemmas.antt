@@ -25,7 +25,7 @@ use Rattle.gf_groups.proofs.IdPositionLemmas.{Contains-rising_ids, same_position
 use Rattle.gf_groups.proofs.OnPositionLemmas.{on_op}
 use Rattle.gf_base.proofs.RisingLemmas.{one_rising}
 use Rattle.gf_groups.proofs.SortedLemmas.{ties, equal_left, rising_sorted}
-use Rattle.gf_maximal.proofs.PairLemmas.{AllPairs-map}
+use Rattle.gf_base.proofs.PairLemmas.{AllPairs-map}
 use Rattle.gf_groups.proofs.VersionLemmas.{version_of_largest, largest_of_version, same_ids}
 use Rattle.gf_groups.proofs.VersionLemmas.{positions_in, positions_in-rising}
 
@@ -60,7 +60,7 @@ module _ (h : List Op) (valid : IsValid h) (o : ObjectId) (us : List ℕ) (all :
   pub groups_once : AllPairs (λ g k. g ≢ k) (map (group_at h o) gs)
   groups_once = AllPairs-map (group_at h o) gs same_group_at table.once
 
-  pub group_on : (g : Group) → Contains (map (group_at h o) gs) g → g.object ≡ o
+  group_on : (g : Group) → Contains (map (group_at h o) gs) g → g.object ≡ o
   group_on g c = ap (λ (k : Group). k.object) ((Contains-map_from (group_at h o) gs g c).2)
 
   pub groups_exactly : IsMade h o → (g : Group) → Contains (map (group_at h o) gs) g

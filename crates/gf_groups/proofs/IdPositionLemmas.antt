@@ -20,10 +20,9 @@ use Rattle.gf_base.proofs.ListLemmas.{not_Contains-nil}
 use Rattle.gf_groups.specs.GroupedPositions.{ids_at, rising_ids}
 use Rattle.gf_maximal.specs.LargestSets.{IsRising}
 use Rattle.gf_groups.proofs.IdLemmas.{id_cmp_total, id_cmp_exact}
-use Rattle.gf_base.proofs.RisingLemmas.{below_tail, rising_nil}
-use Rattle.gf_maximal.proofs.InsertLemmas.{inserted_all, holds_all}
+use Rattle.gf_base.proofs.RisingLemmas.{below_from_less, below_tail, rising_nil}
+use Rattle.gf_base.proofs.InsertLemmas.{inserted_all, holds_all}
 use Rattle.gf_groups.proofs.SortedLemmas.{same_sorted}
-use Rattle.gf_groups.proofs.LargestGroupLemmas.{below_from_less}
 
 -- j is the id of the operation at a position of g
 pub record IsIdAt (h : List Op) (g : List ℕ) (j : OpId) : Type 0 where

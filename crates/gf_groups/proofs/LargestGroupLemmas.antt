@@ -1,14 +1,12 @@
 -- The sets of rising positions are all largest compatible sets of them, each once.
-use Rattle.std.proofs.Common.{◌≡◌, ℕ, ◌<◌, Bool, true, false, List, [], ◌∷◌, ◌++◌, append_assoc}
+use Rattle.std.proofs.Common.{◌≡◌, ℕ, Bool, true, false, List, [], ◌∷◌, ◌++◌, append_assoc}
 use Rattle.std.proofs.Common.{refl, subst, sym, ap, ◌∙◌, inl, inr, arith}
 use Rattle.std.specs.Prelude.{All, Contains, Option, Some, None, slice_get, ◌==◌}
 use Rattle.std.specs.FinMap.{nat_cmp-IsAntisymmetric}
-use Rattle.std.specs.Ordering.{nat_cmp, MatchOrdering}
-use Rattle.std.specs.declared.cmp.Ordering.{Ordering}
-use Rattle.std.specs.declared.cmp.Ordering.TheVariants.{Less}
+use Rattle.std.specs.Ordering.{nat_cmp}
 use Rattle.std.proofs.lemmas.Bool.{cond-false}
 use Rattle.std.proofs.lemmas.Bool.Decides.{Decides-eqb, Decides-like, same_from_decides}
-use Rattle.std.proofs.lemmas.Cmp.{nat_cmp_total, ranked}
+use Rattle.std.proofs.lemmas.Cmp.{nat_cmp_total}
 use Rattle.std.proofs.lemmas.List.{append-nil}
 use Rattle.std.proofs.lemmas.List.Elements.{All-weaker, All-contains_itself, Contains-append_left}
 use Rattle.std.proofs.lemmas.List.Elements.{Contains-push, Contains-push_cases, filter-append}
@@ -19,10 +17,11 @@ use Rattle.gf_groups.specs.Growing.{both_conflict, conflict_at, rivals, grown, g
 use Rattle.gf_maximal.specs.LargestSets.{IsRising, AreLargestSets}
 use Rattle.gf_groups.proofs.ConflictTestLemmas.{in_conflict-sym}
 use Rattle.gf_maximal.proofs.GrowingLemmas.{Comes, largest_first, largest_next}
-use Rattle.gf_maximal.proofs.InsertLemmas.{inserted, holds}
+use Rattle.gf_base.proofs.InsertLemmas.{inserted, holds}
 use Rattle.gf_maximal.proofs.LargestLemmas.{IsConflict}
 use Rattle.gf_base.proofs.FilterLemmas.{Contains-filter}
-use Rattle.gf_base.proofs.RisingLemmas.{one_rising, rising_front, rising_below}
+use Rattle.gf_base.proofs.RisingLemmas.{below_from_less, one_rising, rising_front}
+use Rattle.gf_base.proofs.RisingLemmas.{rising_below}
 
 both_conflict-sym : (h : List Op) (r s : Option Op) → both_conflict h r s ≡ both_conflict h s r
 both_conflict-sym h (Some a) (Some b) = in_conflict-sym h a b
@@ -39,10 +38,6 @@ conflict_at_test h = record {
   symmetric = λ i j. rw (turned i j, both_conflict-sym h (slice_get h i) (slice_get h j)) refl;
   alone = λ i. let e = (Decides-eqb i i).1 refl in rw e refl;
 }
-
-pub below_from_less : (a b : ℕ) → nat_cmp a b ≡ Less → a < b
-below_from_less a b e = subst (λ (o : Ordering). MatchOrdering o (a < b) (a ≡ b) (b < a)) e
-    (ranked a b (nat_cmp a b) refl)
 
 module _ (c : ℕ → ℕ → Bool) where
   -- one more that conflicts with y, above all before it
@@ -126,8 +121,3 @@ pub largest_rise : (c : ℕ → ℕ → Bool) (us : List ℕ) (gs : List (List �
     → All IsRising gs
 largest_rise c us gs table = All-weaker (Contains gs) IsRising (λ g i. ((table.each g).0 i).0) gs
     (All-contains_itself gs)
-
-pub groups_rise : (h : List Op) (xs : List ℕ) → IsRising xs
-    → All IsRising (groups_at (conflict_at h) xs)
-groups_rise h xs form = largest_rise (conflict_at h) xs (groups_at (conflict_at h) xs)
-    (largest_groups (conflict_at h) (conflict_at_test h) xs form)

@@ -1,10 +1,8 @@
-pub mod AllGroupLemmas
 pub mod ConflictTestLemmas
 pub mod GroupLemmas
 pub mod IdLemmas
 pub mod IdPositionLemmas
 pub mod OnPositionLemmas
-pub mod PartingLemmas
 pub mod PositionLemmas
 pub mod SortedLemmas
 pub mod SublistLemmas

@@ -3,7 +3,8 @@ use Rattle.std.proofs.Common.{◌≡◌, ◌≢◌, ℕ, true, List, length, ref
 use Rattle.std.specs.Prelude.{◌↔◌, Contains, Option, Some, None, slice_get, not, ◌==◌}
 use Rattle.std.proofs.lemmas.Bool.{and_parts, and_from}
 use Rattle.std.proofs.lemmas.Bool.Decides.{Decides-eqb, Decides-not}
-use Rattle.std.proofs.lemmas.Option.{slice_get_read, slice_get_within, get_or_from_slice_get}
+use Rattle.std.proofs.lemmas.Option.{slice_get_read, slice_get_within}
+use Rattle.gf_base.proofs.PositionLemmas.{contained_at}
 use Rattle.gf_ops.specs.declared.op.Op.{Op}
 use Rattle.gf_ops.specs.declared.op.OpId.{OpId}
 use Rattle.gf_ops.specs.declared.op.ObjectId.{ObjectId}
@@ -13,10 +14,10 @@ use Rattle.gf_ops.specs.Attribute.{Kind, made_kind, object_of, changed_object}
 use Rattle.gf_ops.specs.Conflict.{Conflict}
 use Rattle.gf_ops.specs.ValidHistory.{IsValid}
 use Rattle.gf_ops.proofs.ConflictLemmas.{conflict_irreflexive}
-use Rattle.gf_groups.specs.GroupedPositions.{is_on, positions_below}
+use Rattle.gf_groups.specs.GroupedPositions.{is_on, positions_on}
 use Rattle.gf_groups.specs.Growing.{both_conflict, conflict_at}
 use Rattle.gf_groups.proofs.ConflictTestLemmas.{id_decided, conflict_decided}
-use Rattle.gf_groups.proofs.PositionLemmas.{Contains-positions_below}
+use Rattle.gf_groups.proofs.PositionLemmas.{Contains-positions_on}
 
 -- an operation that makes an object is on it
 pub made_object : (i : OpId) (c : Change) (k : Kind) → made_kind c ≡ Some k
@@ -55,9 +56,6 @@ module _ (h : List Op) where
   pub position_of_op : (a : Op) → Contains h a → (i : ℕ) × (slice_get h i ≡ Some a)
   position_of_op a (i, l, e) = (i, slice_get_read h (length h) i a refl l (sym e))
 
-  pub contained_at : (i : ℕ) (a : Op) → slice_get h i ≡ Some a → Contains h a
-  contained_at i a e = (i, slice_get_within h i a e, get_or_from_slice_get h i a a e)
-
   -- two positions conflict where their operations do
   pub conflict_from : IsValid h → (i j : ℕ) (a b : Op) → slice_get h i ≡ Some a
       → slice_get h j ≡ Some b → Conflict h a b → conflict_at h i j ≡ true
@@ -65,7 +63,7 @@ module _ (h : List Op) where
       let other : i ≢ j = λ q.
       let one : a ≡ b = let g : slice_get h j ≡ Some a = subst (λ n. slice_get h n ≡ Some a) q e in
       cc in
-      conflict_irreflexive h valid a (contained_at i a e) (subst (Conflict h a) (sym one) k) in
+      conflict_irreflexive h valid a (contained_at h i a e) (subst (Conflict h a) (sym one) k) in
       and_from (not (i == j)) (both_conflict h (slice_get h i) (slice_get h j))
       ((Decides-not (i == j) (Decides-eqb i j)).1 other)
       (both_from h (slice_get h i) (slice_get h j) a b e f k)
@@ -76,10 +74,10 @@ module _ (h : List Op) where
       (and_parts (not (i == j)) (both_conflict h (slice_get h i) (slice_get h j)) t).1
 
   -- the positions below the length are all positions of operations on the object
-  pub all_positions : (o : ObjectId) (i : ℕ) → Contains (positions_below h o (length h)) i
+  pub all_positions : (o : ObjectId) (i : ℕ) → Contains (positions_on h o) i
       ↔ (is_on o (slice_get h i) ≡ true)
   all_positions o i = (
-    λ c. ((Contains-positions_below h o (length h) i).0 c).1,
-    λ t. let w = on_op o (slice_get h i) t in (Contains-positions_below h o (length h) i).1
+    λ c. ((Contains-positions_on h o i).0 c).1,
+    λ t. let w = on_op o (slice_get h i) t in (Contains-positions_on h o i).1
         (slice_get_within h i w.0 w.1, t),
   )

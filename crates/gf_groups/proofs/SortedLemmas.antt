@@ -15,7 +15,7 @@ use Rattle.std.proofs.lemmas.List.Sorted.{Contains-permutation, IsPermutation-sy
 use Rattle.std.proofs.lemmas.Map.Keys.{IsDistinct-from_apart, IsDistinct-IsPermutation}
 use Rattle.std.proofs.lemmas.Map.Keys.{apart_from_distinct, sorted_from_all_adjacent}
 use Rattle.gf_base.proofs.ListLemmas.{not_Contains-nil}
-use Rattle.gf_maximal.proofs.InsertLemmas.{inserted_all, holds_all}
+use Rattle.gf_base.proofs.InsertLemmas.{inserted_all, holds_all}
 use Rattle.gf_base.proofs.RisingLemmas.{one_rising, rising_nil}
 
 pub equal_left : (o : Ordering) → is_eq o ≡ true → o ≡ Equal

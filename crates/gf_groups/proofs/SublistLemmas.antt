@@ -14,8 +14,8 @@ use Rattle.std.proofs.lemmas.Map.Keys.{sorted_tail}
 use Rattle.gf_base.proofs.ListLemmas.{Contains-cons_cases, Contains-cons_head, Contains-cons_tail}
 use Rattle.gf_base.proofs.ListLemmas.{not_Contains-nil, Contains-map, Contains-map_from}
 use Rattle.gf_groups.specs.VersionList.{sublists}
-use Rattle.gf_maximal.specs.Pairs.{Pairs}
-use Rattle.gf_maximal.proofs.PairLemmas.{Pairs-append, Pairs-map}
+use Rattle.gf_base.specs.Pairs.{Pairs}
+use Rattle.gf_base.proofs.PairLemmas.{Pairs-append, Pairs-map}
 use Rattle.gf_base.proofs.RisingLemmas.{below_tail, rising_cons}
 
 -- ---- each element stands to all later ones as R says

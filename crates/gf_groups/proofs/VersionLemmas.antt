@@ -21,7 +21,8 @@ use Rattle.gf_groups.proofs.IdLemmas.{id_cmp_total}
 use Rattle.gf_groups.proofs.IdPositionLemmas.{IsIdAt, Contains-rising_ids, rising_ids-rising}
 use Rattle.gf_base.proofs.FilterLemmas.{Contains-filter, list_any_true, list_any_from}
 use Rattle.gf_groups.proofs.OnPositionLemmas.{made_object, on_from, on_to, on_op, conflict_from}
-use Rattle.gf_groups.proofs.OnPositionLemmas.{conflict_with, position_of_op, contained_at}
+use Rattle.gf_base.proofs.PositionLemmas.{contained_at}
+use Rattle.gf_groups.proofs.OnPositionLemmas.{conflict_with, position_of_op}
 use Rattle.gf_base.proofs.RisingLemmas.{one_rising}
 use Rattle.gf_ops.specs.OperationOrder.{id_cmp}
 

@@ -32,8 +32,8 @@ use Rattle.gf_base.proofs.FilterLemmas.{list_all_true, list_all_from}
 use Rattle.gf_groups.proofs.GroupLemmas.{group_cmp_total}
 use Rattle.gf_groups.proofs.OnPositionLemmas.{made_object}
 use Rattle.gf_base.proofs.RisingLemmas.{one_rising}
-use Rattle.gf_maximal.proofs.InsertLemmas.{inserted_all, holds_all}
-use Rattle.gf_maximal.proofs.PairLemmas.{Pairs-filter, Pairs-from, Pairs-map}
+use Rattle.gf_base.proofs.InsertLemmas.{inserted_all, holds_all}
+use Rattle.gf_base.proofs.PairLemmas.{Pairs-filter, Pairs-from, Pairs-map}
 use Rattle.gf_groups.proofs.SublistLemmas.{Pairs_from_rising, StandsBefore, rising_from_Pairs}
 use Rattle.gf_groups.proofs.SublistLemmas.{rising_sublist, sublist_rising, sublist_within}
 use Rattle.gf_groups.proofs.SublistLemmas.{sublists_in_order}

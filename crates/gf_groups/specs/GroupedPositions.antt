@@ -1,8 +1,8 @@
 -- The positions of the operations on an object, and what groups of positions stand for (this
 -- project's choice).
-use Rattle.std.specs.Prelude.{ℕ, zero, suc, Bool, false, cond, List, [], ◌∷◌, ◌++◌, map}
-use Rattle.std.specs.Prelude.{filter_map, option_map, Option, Some, None, slice_get}
-use Rattle.std.specs.List.{fold}
+use Rattle.std.specs.Prelude.{ℕ, Bool, false, List, [], filter, filter_map, length, option_map}
+use Rattle.std.specs.Prelude.{Option, Some, None, slice_get}
+use Rattle.std.specs.List.{fold, range_with_len}
 use Rattle.std.specs.BTreeSet.{insert_key}
 use Rattle.gf_ops.specs.declared.op.Op.{Op}
 use Rattle.gf_ops.specs.declared.op.OpId.{OpId}
@@ -10,7 +10,6 @@ use Rattle.gf_ops.specs.declared.op.ObjectId.{ObjectId}
 use Rattle.gf_ops.specs.Attribute.{object_of}
 use Rattle.gf_ops.specs.OperationOrder.{id_cmp}
 use Rattle.gf_groups.specs.declared.group.Group.{Group}
-use Rattle.gf_groups.specs.Growing.{conflict_at, groups_at}
 use Rattle.gf_groups.specs.VersionList.{id_eq}
 
 -- the operation is there, and on the object o
@@ -18,11 +17,9 @@ abbrev pub is_on : ObjectId → Option Op → Bool
 is_on o (Some a) = id_eq (object_of a).0 o.0
 is_on o None = false
 
--- the positions below n of the operations of h on the object o
-abbrev pub positions_below : List Op → ObjectId → ℕ → List ℕ
-positions_below h o zero = []
-positions_below h o (suc n) = cond (is_on o (slice_get h n)) (positions_below h o n ++ n ∷ [])
-    (positions_below h o n)
+-- the positions of the operations of h on the object o
+abbrev pub positions_on : List Op → ObjectId → List ℕ
+positions_on h o = filter (λ i. is_on o (slice_get h i)) (range_with_len 0 (length h))
 
 -- the id of the operation at the position k
 abbrev pub id_at : List Op → ℕ → Option OpId
@@ -39,7 +36,3 @@ rising_ids h g = fold (insert_key id_cmp) [] (ids_at h g)
 -- the group of the operations at the positions g, which are on the object o
 abbrev pub group_at : List Op → ObjectId → List ℕ → Group
 group_at h o g = record { object = o; ops = rising_ids h g }
-
--- the groups of the operations at the positions, which are on the object o
-abbrev pub groups_on : List Op → ObjectId → List ℕ → List Group
-groups_on h o positions = map (group_at h o) (groups_at (conflict_at h) positions)

@@ -2,4 +2,3 @@ pub mod Versions
 pub mod VersionList
 pub mod Growing
 pub mod GroupedPositions
-pub mod Parting

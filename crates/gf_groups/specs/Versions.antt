@@ -1,6 +1,6 @@
 -- The versions of the objects of a history, listed (maximal compatible groups, Sun and Chen, ACM
 -- TOCHI 9(1), 2002; their order is this project's choice).
-use Rattle.std.specs.Prelude.{◌≡◌, ◌≢◌, ◌↔◌, List, Contains, AllPairs}
+use Rattle.std.specs.Prelude.{◌≡◌, ◌↔◌, List, Contains}
 use Rattle.std.specs.List.Sorted.{IsStrictlySortedBy}
 use Rattle.std.specs.declared.cmp.Ordering.{Ordering}
 use Rattle.std.specs.Cmp.Lexicographic.{slice_cmp}
@@ -28,8 +28,3 @@ IsVersionGroup h g = IsVersion h g.object g.ops
 pub record AreVersions (h : List Op) (o : ObjectId) (groups : List Group) : Type 0 where
   pub exactly : (g : Group) → Contains groups g ↔ ((g.object ≡ o) × IsVersionGroup h g)
   pub rising : IsStrictlySortedBy group_cmp groups
-
--- the groups are the versions of all objects of h, each once
-pub record AreAllVersions (h : List Op) (groups : List Group) : Type 0 where
-  pub exactly : (g : Group) → Contains groups g ↔ IsVersionGroup h g
-  pub once : AllPairs (λ g k. g ≢ k) groups

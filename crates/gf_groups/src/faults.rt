@@ -1,8 +1,8 @@
-//! Why an object has no list of groups.
+//! Why an object has no list of its groups.
 
 use thiserror::Error;
 
-/// Why [`groups_of`](crate::groups_of) gives no groups.
+/// Why an object has no list of its groups.
 #[derive(Clone, Copy, Debug, PartialEq, Eq, Error)]
 pub enum GroupFault {
     /// The history made no such object.

@@ -1,16 +1,14 @@
 //! The versions of objects as groups of operations: largest sets of operations on one object, no
 //! two of which conflict.
 //!
-//! - [`groups_of`]: the versions of one object, as [`Groups`], a list of [`Group`].
-//! - [`all_groups`]: the versions of all objects of a history.
-//! - [`GroupFault`]: why there is no such list.
+//! - [`Groups`]: the versions of an object, a list of [`Group`]. [`GroupFault`]: why there is no
+//!   such list. [`is_made`]: whether the history has the object.
 //! - [`the_versions_are_a_list_that_computes`]: the law.
 //!
 //! For tables of versions: whether the operations at two positions conflict ([`conflict_at`]) or
 //! come one before the other ([`before_at`]), and the largest sets of positions without a conflict
-//! ([`groups_at`]). [`groups_from`] makes such
-//! sets the groups of an object, and [`add_groups`] adds these groups to others. [`rising_ids`] are
-//! the ids of the operations at some positions.
+//! ([`groups_at`]). [`groups_from`] makes such sets the groups of an object, and [`add_groups`]
+//! adds these groups to others. [`rising_ids`] are the ids of the operations at some positions.
 #![tactic(auto)]
 
 mod conflict;
@@ -20,13 +18,11 @@ mod groups;
 mod growth;
 mod laws;
 mod listing;
-mod parting;
-mod positions;
 
 pub use conflict::{before_at, conflict_at};
 pub use faults::GroupFault;
 pub use group::{Group, Groups};
-pub use groups::{all_groups, groups_from, groups_of, is_made};
+pub use groups::{groups_from, is_made};
 pub use growth::groups_at;
 pub use laws::the_versions_are_a_list_that_computes;
 pub use listing::{add_groups, rising_ids};

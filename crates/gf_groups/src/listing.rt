@@ -1,35 +1,16 @@
-//! The operations on an object by their positions, and groups of positions as groups of ids.
+//! Groups of positions as groups of ids.
 
-ghost use Rattle.std.specs.Prelude.{◌≡◌, ◌++◌, All, length, map, IfOk, OnOk};
+ghost use Rattle.std.specs.Prelude.{◌≡◌, ◌++◌, All, map, IfOk, OnOk};
 ghost use Rattle.std.specs.List.Sorted.{IsStrictlySortedBy};
 ghost use Rattle.std.specs.Ordering.{nat_cmp};
 ghost use Rattle.gf_maximal.specs.LargestSets.{IsRising};
-ghost use Rattle.gf_groups.specs.GroupedPositions.{positions_below, id_at, ids_at, rising_ids};
-ghost use Rattle.gf_groups.specs.GroupedPositions.{group_at};
+ghost use Rattle.gf_groups.specs.GroupedPositions.{group_at, id_at, ids_at, rising_ids};
 
 use crate::Group;
 use gf_base::OutOfMemory;
 use gf_maximal::Numbers;
 use gf_ops::{History, Ids, ObjectId, Op, OpId};
 use std::alloc::Global;
-
-/// The positions of the operations on the object.
-pub(crate) fn positions_on(
-    alloc: Global,
-    ops: &[Op],
-    object: ObjectId,
-) -> Result<Vec<usize>, OutOfMemory>
-    ensures { IfOk result (λ positions. positions.items
-        ≡ positions_below ops.now object (length ops.now)) }
-{
-    let mut positions = Vec::new(alloc);
-    for (position, op) in ops.iter().enumerate() {
-        if op.object() == object {
-            positions.push(position)?;
-        }
-    }
-    Ok(positions)
-}
 
 /// The id of the operation at this position.
 fn id_at(ops: &[Op], position: usize) -> Option<OpId>

@@ -15,7 +15,7 @@ use Rattle.gf_figures.specs.Colours.{Table}
 use Rattle.gf_figures.specs.DrawingState.{DrawingState}
 use Rattle.gf_fig_read.specs.FigGrammar.{Reads}
 use Rattle.gf_fig_read.proofs.GrammarLemmas.{not_both, one_drawing}
-use Rattle.gf_studio.specs.declared.studio_error.StudioError.TheVariants as studio
+use Rattle.gf_run.specs.declared.studio_error.StudioError.TheVariants as studio
 use Rattle.gf_import.specs.declared.faults.FigureFault.{FigureFault}
 use Rattle.gf_import.specs.declared.import_error.ImportError.{ImportError}
 use Rattle.gf_import.specs.declared.import_error.ImportError.TheVariants as import_error

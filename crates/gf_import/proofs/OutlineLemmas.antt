@@ -5,9 +5,9 @@ use Rattle.std.specs.Prelude.{Some, slice_get}
 use Rattle.std.proofs.lemmas.Bool.{and_parts, cases_Bool}
 use Rattle.gf_shape.specs.declared.outline.Outline.{Outline}
 use Rattle.gf_shape.specs.declared.outline.Outline.TheVariants.{Chain, Disc, Oval}
-use Rattle.gf_shape.specs.declared.point.Point.{Point}
+use Rattle.gf_plane.specs.declared.point.Point.{Point}
 use Rattle.gf_shape.specs.FigureMeaning.{chain_holds, outline_holds}
-use Rattle.gf_shape.specs.Moving.{minus, plus}
+use Rattle.gf_plane.specs.Moving.{minus, plus}
 use Rattle.gf_shape.specs.Opened.{opened}
 use Rattle.gf_shape.specs.Ring.{Ring, IsRing}
 use Rattle.gf_shape.specs.ShapeLaws.{IsLawful}

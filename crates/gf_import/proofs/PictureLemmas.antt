@@ -4,10 +4,10 @@ use Rattle.std.proofs.Common.{◌∙◌, inl, inr, arith}
 use Rattle.std.specs.Prelude.{All, Contains, IsTrue, Option, Some, None, option_map, unwrap_or}
 use Rattle.std.proofs.lemmas.List.Elements.{All-head, All-tail, All-weaker, Contains-push_cases}
 use Rattle.gf_shape.specs.declared.outline.Outline.{Outline}
-use Rattle.gf_shape.specs.declared.point.Point.{Point}
+use Rattle.gf_plane.specs.declared.point.Point.{Point}
 use Rattle.gf_shape.specs.FigureMeaning.{outline_holds}
 use Rattle.gf_shape.specs.ShapeLaws.{IsLawful}
-use Rattle.gf_shape.specs.White.{white}
+use Rattle.gf_plane.specs.White.{white}
 use Rattle.gf_ops.specs.declared.op.Op.{Op}
 use Rattle.gf_ops.specs.OperationOrder.{IsSite, count_of}
 use Rattle.gf_ops.specs.ValidHistory.{IsValid}

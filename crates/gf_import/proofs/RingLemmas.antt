@@ -9,7 +9,7 @@ use Rattle.std.proofs.Math.Bool.{or_assoc, or_comm, or-false}
 use Rattle.std.proofs.Math.IntN.{neg_ℤ, *ℤ_comm}
 use Rattle.std.proofs.lemmas.Bool.Decides.{Decides-int_eq, Decides-like, same_from_decides}
 use Rattle.std.proofs.lemmas.Int.{ints}
-use Rattle.gf_shape.specs.declared.point.Point.{Point}
+use Rattle.gf_plane.specs.declared.point.Point.{Point}
 use Rattle.gf_shape.specs.Edges.{side, is_on_line, is_between, is_on_edge}
 use Rattle.gf_shape.specs.Edges.{climbs_past, falls_past, crosses_left}
 use Rattle.gf_shape.specs.FigureMeaning.{chain_holds}

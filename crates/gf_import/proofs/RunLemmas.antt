@@ -1,7 +1,7 @@
 -- What an importing run is refused for.
 use Rattle.std.proofs.Common.{◌≡◌, ℕ, List, subst}
 use Rattle.std.specs.Prelude.{Option, None, Some, Result, Ok, Err, IfSome, IfErr}
-use Rattle.gf_studio.specs.declared.studio_error.StudioError.TheVariants as studio
+use Rattle.gf_run.specs.declared.studio_error.StudioError.TheVariants as studio
 use Rattle.gf_import.specs.declared.import_error.ImportError.{ImportError}
 use Rattle.gf_import.specs.declared.import_error.ImportError.TheVariants as import_error
 use Rattle.gf_import.specs.ImportRun.{RefusesImport, RefusesImportRun}

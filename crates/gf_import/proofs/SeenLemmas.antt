@@ -2,8 +2,8 @@
 use Rattle.std.proofs.Common.{◌≡◌, ℕ, ◌+◌, ◌≤◌, ◌<◌, List, [], ◌∷◌, ◌++◌, map, length, take, get_or}
 use Rattle.std.proofs.Common.{sym, ap, ◌∙◌}
 use Rattle.std.proofs.lemmas.List.{map-append, take_more, take_all}
-use Rattle.gf_shape.specs.declared.point.Point.{Point}
-use Rattle.gf_shape.specs.Moving.{minus}
+use Rattle.gf_plane.specs.declared.point.Point.{Point}
+use Rattle.gf_plane.specs.Moving.{minus}
 
 pub seen_more : (old new : List Point) (m o p : Point) (ps : List Point) (i : ℕ) → i < length ps
     → new ≡ old ++ m ∷ [] → old ≡ map (λ q. minus q o) (take i ps) → m ≡ minus (get_or ps i p) o

@@ -17,7 +17,7 @@ use Rattle.gf_base.proofs.ListLemmas.{not_Contains-nil}
 use Rattle.gf_causal.proofs.CourseLemmas.{count_push_same}
 use Rattle.gf_site.specs.SiteState.{SiteState, authored, new_site}
 use Rattle.gf_site.proofs.AuthorLemmas.{authored_in_range, authored_next}
-use Rattle.gf_replicas.proofs.GrowingLemmas.{valid_nil, valid_push}
+use Rattle.gf_site.proofs.ValidLemmas.{valid_nil, valid_push}
 use Rattle.gf_figures.specs.declared.figure.Figure.{Figure}
 use Rattle.gf_figures.specs.Colours.{Table}
 use Rattle.gf_import.specs.Importing.{creation_of, start_of}

@@ -3,10 +3,10 @@ use Rattle.std.specs.Prelude.{◌≡◌, ℕ, List, Option, None, Some, ⊤}
 use Rattle.gf_fig_read.specs.FaultLines.{BeginsOn, IsFaultLine}
 use Rattle.gf_fig_read.specs.FigGrammar.{Fails, Reads}
 use Rattle.gf_fig_read.specs.Objects.{Drawn}
-use Rattle.gf_studio.specs.declared.studio_error.StudioError.{StudioError}
-use Rattle.gf_studio.specs.declared.studio_error.StudioError.TheVariants as studio
-use Rattle.gf_studio.specs.RefusedRuns.{IsOfRun}
-use Rattle.gf_studio.specs.RunAnswers.{WritesText}
+use Rattle.gf_run.specs.declared.studio_error.StudioError.{StudioError}
+use Rattle.gf_run.specs.declared.studio_error.StudioError.TheVariants as studio
+use Rattle.gf_run.specs.RefusedRuns.{IsOfRun}
+use Rattle.gf_run.specs.RunAnswers.{WritesText}
 use Rattle.gf_import.specs.declared.faults.CreationError.{CreationError}
 use Rattle.gf_import.specs.declared.faults.CreationError.TheVariants as creation
 use Rattle.gf_import.specs.declared.import_error.ImportError.{ImportError}

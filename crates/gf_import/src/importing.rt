@@ -12,8 +12,8 @@ use crate::{CreationError, ImportError, creations};
 use gf_fig_read::{FigError, fault_line, object_line, read_fig};
 use gf_json::{Command, ScriptLine, script_line};
 use gf_ops::Change;
+use gf_run::StudioError;
 use gf_shape::OutOfMemory;
-use gf_studio::StudioError;
 use std::alloc::Global;
 
 /// The lines of the commands of a site that create the figures of a FIG text.

@@ -9,7 +9,7 @@ ghost use Rattle.gf_site.specs.SiteState.{SiteState, new_site};
 ghost use Rattle.gf_figures.specs.DrawingState.{DrawingState};
 ghost use Rattle.gf_drawing.specs.CanonicalDrawing.{PaintsAsFig};
 ghost use Rattle.gf_fig_read.specs.FigGrammar.{Reads};
-ghost use Rattle.gf_studio.specs.declared.studio_error.StudioError.{StudioError};
+ghost use Rattle.gf_run.specs.declared.studio_error.StudioError.{StudioError};
 ghost use Rattle.gf_import.specs.declared.import_error.ImportError.{ImportError};
 ghost use Rattle.gf_import.specs.CommandLines.{DenotesChanges};
 ghost use Rattle.gf_import.specs.ImportRun.{Imports, RefusesImport};

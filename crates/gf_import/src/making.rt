@@ -2,8 +2,8 @@
 
 ghost use Rattle.std.specs.Prelude.{◌≡◌, ◌-ℤ◌, ◌≤◌, IfOk, OnOk, IsTrue, All, length, map};
 ghost use Rattle.gf_shape.specs.declared.outline.Outline.TheVariants as outline;
-ghost use Rattle.gf_shape.specs.Moving.{minus};
-ghost use Rattle.gf_shape.specs.Reach.{is_reached, is_within_reach};
+ghost use Rattle.gf_plane.specs.Moving.{minus};
+ghost use Rattle.gf_plane.specs.Reach.{is_reached, is_within_reach};
 ghost use Rattle.gf_shape.specs.ShapeLaws.{IsLawful};
 ghost use Rattle.gf_ops.specs.Limits.{is_colour};
 ghost use Rattle.gf_figures.specs.DrawingColour.{figure_colour};
@@ -132,7 +132,7 @@ fn seen_at(o: Point, p: Point) -> Point
 }
 
 /// How far `n` lies past `o`.
-#[tactic(auto, using(std::proofs::lemmas::Int::ints), unfolding(gf_shape::specs::Reach::is_reached))]
+#[tactic(auto, using(std::proofs::lemmas::Int::ints), unfolding(gf_plane::specs::Reach::is_reached))]
 fn gap(o: i32, n: i32) -> i32
     requires o { IsTrue (is_reached o) }
     requires n { IsTrue (is_reached n) }

@@ -2,14 +2,14 @@
 
 ghost use Rattle.std.specs.Prelude.{◌≢◌, Some, IfSome, IfOk, IfErr, OnOk};
 ghost use Rattle.gf_ops.specs.OperationOrder.{IsSite};
-ghost use Rattle.gf_studio.specs.declared.studio_error.StudioError.{StudioError};
-ghost use Rattle.gf_studio.specs.RunAnswers.{LeavesSinkBy, ReadsInputBy};
+ghost use Rattle.gf_run.specs.declared.studio_error.StudioError.{StudioError};
+ghost use Rattle.gf_run.specs.RunAnswers.{LeavesSinkBy, ReadsInputBy};
 ghost use Rattle.gf_import.specs.ImportRun.{Imports, RefusesImportRun, WritesImport, of_import};
 
 use crate::ImportError;
 use crate::importing::import;
+use gf_run::{StudioError, input};
 use gf_streams::{Sink, SinkFault, Source, write_whole};
-use gf_studio::{StudioError, input};
 use std::alloc::Global;
 
 /// Reads a FIG text to its end, and writes a line for each of its figures. The line is that of a

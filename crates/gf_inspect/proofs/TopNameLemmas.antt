@@ -2,7 +2,7 @@
 use Rattle.std.proofs.Common.{◌≡◌, List, refl, sym, subst}
 use Rattle.std.specs.Prelude.{find, option_map, Option, Some, None}
 use Rattle.gf_shape.specs.declared.any_shape.AnyShape.{AnyShape}
-use Rattle.gf_shape.specs.declared.point.Point.{Point}
+use Rattle.gf_plane.specs.declared.point.Point.{Point}
 use Rattle.gf_shape.specs.ShapeMeaning.{any_holds}
 use Rattle.gf_ops.specs.declared.op.Op.{Op}
 use Rattle.gf_versions.specs.declared.placed.Placed.{Placed}

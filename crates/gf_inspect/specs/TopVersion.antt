@@ -1,7 +1,7 @@
 -- The version on top at a point, by its name (this project's choice).
 use Rattle.std.specs.Prelude.{List, Option, Some, None}
 use Rattle.gf_shape.specs.declared.any_shape.AnyShape.{AnyShape}
-use Rattle.gf_shape.specs.declared.point.Point.{Point}
+use Rattle.gf_plane.specs.declared.point.Point.{Point}
 use Rattle.gf_ops.specs.declared.op.Op.{Op}
 use Rattle.gf_versions.specs.declared.key.Version.{Version}
 use Rattle.gf_versions.specs.declared.key.VersionKey.{VersionKey}

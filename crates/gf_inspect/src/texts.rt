@@ -9,8 +9,8 @@ ghost use Rattle.gf_inspect.specs.VersionLines.{top_text, top_line};
 
 use crate::VersionName;
 use gf_base::push_number;
-use gf_digits::push_hex_rgb;
 use gf_ops::{Form, ObjectId, OpId, push_id, push_spaced_ids};
+use gf_plane::push_hex_rgb;
 use gf_shape::{OutOfMemory, Point, Rgb};
 use gf_versions::Version;
 use std::alloc::{AllocError, Global};

@@ -3,13 +3,13 @@ use Rattle.std.proofs.Common.{◌≡◌, ℕ, ◌≤◌, ◌<◌, ◌^◌, ℤ, 
 use Rattle.std.proofs.Common.{refl, arith, Ok, Bool, true, false, ◌&&◌, nat_le, int_eq, int_le, ap}
 use Rattle.std.specs.List.{list_all}
 use Rattle.std.proofs.lemmas.List.{length-map}
-use Rattle.gf_shape.specs.declared.point.Point.{Point}
-use Rattle.gf_shape.specs.declared.colour.Rgb.{Rgb}
+use Rattle.gf_plane.specs.declared.point.Point.{Point}
+use Rattle.gf_plane.specs.declared.colour.Rgb.{Rgb}
 use Rattle.gf_ops.proofs.ColourLemmas.{bytes_within}
-use Rattle.gf_digits.proofs.HexLemmas.{rgb_of_hex-hex_rgb}
+use Rattle.gf_plane.proofs.HexLemmas.{rgb_of_hex-hex_rgb}
 use Rattle.gf_ops.specs.declared.op.OpId.{OpId}
 use Rattle.gf_ops.specs.declared.op.Clock.{Clock}
-use Rattle.gf_shape.specs.Polygons.{is_polygon_count}
+use Rattle.gf_plane.specs.PointCounts.{is_polygon_count}
 use Rattle.gf_ops.specs.Limits.{is_site, is_id, is_clock, is_near, is_size, is_polygon, is_layer}
 use Rattle.gf_ops.specs.Limits.{is_colour}
 use Rattle.serde_json.specs.Data.{Data}

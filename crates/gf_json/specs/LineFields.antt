@@ -2,8 +2,8 @@
 -- choice).
 use Rattle.std.specs.Prelude.{ℕ, Bool, List, codes}
 use Rattle.std.specs.Option.{ok_or}
-use Rattle.gf_shape.specs.declared.point.Point.{Point}
-use Rattle.gf_shape.specs.declared.colour.Rgb.{Rgb}
+use Rattle.gf_plane.specs.declared.point.Point.{Point}
+use Rattle.gf_plane.specs.declared.colour.Rgb.{Rgb}
 use Rattle.gf_ops.specs.declared.op.OpId.{OpId}
 use Rattle.gf_ops.specs.declared.op.ObjectId.{ObjectId}
 use Rattle.gf_ops.specs.declared.op.Clock.{Clock}

@@ -11,7 +11,7 @@ use Rattle.gf_ops.specs.declared.change.Change.{Change}
 use Rattle.gf_ops.specs.declared.change.Change.TheVariants.{Create, Set}
 use Rattle.gf_ops.specs.declared.change.Value.{Value}
 use Rattle.gf_ops.specs.declared.change.Value.TheVariants as value
-use Rattle.gf_shape.specs.declared.point.Point.{Point}
+use Rattle.gf_plane.specs.declared.point.Point.{Point}
 use Rattle.serde_json.specs.Data.{Data, boolean, string, object, Members, no_members, member}
 use Rattle.serde_json.specs.Written.{compact_text}
 use Rattle.gf_json.specs.WrittenValues.{natural_data, name_data, ids_data, clock_data, point_data}

@@ -17,8 +17,8 @@ mod values;
 use crate::writing::members::{put_form, put_look, put_setting};
 use crate::writing::values::{clock_data, name_data};
 use crate::{Command, ScriptLine};
+use gf_base::OutOfMemory;
 use gf_ops::{Change, Ids, ObjectId, Op, Start};
-use gf_shape::OutOfMemory;
 use serde_json::{Map, Value, put};
 use std::alloc::{AllocError, Global};
 

@@ -26,7 +26,7 @@ use Rattle.gf_groups.specs.declared.group.Group.{Group}
 use Rattle.gf_groups.specs.Versions.{IsVersionGroup, group_cmp}
 use Rattle.gf_groups.proofs.GroupLemmas.{group_cmp_total}
 use Rattle.gf_groups.proofs.IdLemmas.{id_cmp_total, id_cmp_exact}
-use Rattle.gf_maximal.proofs.InsertLemmas.{holds, inserted}
+use Rattle.gf_base.proofs.InsertLemmas.{holds, inserted}
 use Rattle.gf_versions.proofs.SettlingLemmas.{settled_once}
 use Rattle.gf_versions.proofs.VersionLemmas.{some_version}
 use Rattle.gf_site.specs.SiteState.{authored}
@@ -34,8 +34,8 @@ use Rattle.gf_visible.specs.ShownVersions.{IsVisibleGroup}
 use Rattle.gf_visible.proofs.SetterLemmas.{shown_once}
 use Rattle.gf_keep.specs.declared.keep.Keep.{Keep}
 use Rattle.gf_keep.specs.Keeping.{AreKept, AreKeeping, IsKept, IsShowing, hiding}
-use Rattle.gf_keep.specs.MadeOf.{Becomes, GoesOn, IsHide, IsKeptOn, IsShow, MakesEach}
-use Rattle.gf_keep.specs.MadeOf.{next as made_next}
+use Rattle.gf_site.specs.MadeEach.{MakesEach, next as made_next}
+use Rattle.gf_keep.specs.MadeOf.{Becomes, GoesOn, IsHide, IsKeptOn, IsShow}
 use Rattle.gf_keep.proofs.KeptLemmas.{becomes_shown, becomes_version, other_shows, setter_shows}
 use Rattle.gf_keep.proofs.KeptLemmas.{showing_in, shown_exactly}
 use Rattle.gf_keep.proofs.MadeLemmas.{first_known, made_calm, made_known, made_valid, shows_made}

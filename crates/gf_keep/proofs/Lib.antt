@@ -3,6 +3,5 @@ mod MadeLemmas
 mod KeptLemmas
 mod LawLemmas
 mod AimingLemmas
-mod VersionedLemmas
 mod KeptGroupLemmas
 mod ShowingLemmas

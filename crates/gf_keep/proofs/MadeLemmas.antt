@@ -21,8 +21,8 @@ use Rattle.gf_groups.specs.declared.group.Group.{Group}
 use Rattle.gf_site.specs.SiteState.{authored}
 use Rattle.gf_site.proofs.AuthorLemmas.{entry-clock_of}
 use Rattle.gf_keep.specs.Keeping.{IsShowing}
-use Rattle.gf_replicas.proofs.GrowingLemmas.{valid_push}
-use Rattle.gf_keep.specs.MadeOf.{MakesEach, none as made_none, next as made_next}
+use Rattle.gf_site.proofs.ValidLemmas.{valid_push}
+use Rattle.gf_site.specs.MadeEach.{MakesEach, none as made_none, next as made_next}
 
 -- an operation that a site makes knows all that is there
 knows_all : (s : ℕ) (h : List Op) (c : Change) → IsValid h → (b : Op) → Contains h b

@@ -1,25 +1,12 @@
--- The operations that one site makes of changes, and what a kept version becomes behind them (this
--- project's choice).
-use Rattle.std.specs.Prelude.{◌≡◌, ◌↔◌, ◌⊎◌, ℕ, List, [], ◌∷◌, ◌++◌, Contains}
+-- What a kept version becomes behind the operations that keep it (this project's choice).
+use Rattle.std.specs.Prelude.{◌≡◌, ◌↔◌, ◌⊎◌, List, Contains}
 use Rattle.std.specs.List.Sorted.{IsStrictlySortedBy}
 use Rattle.gf_ops.specs.declared.op.Op.{Op}
 use Rattle.gf_ops.specs.declared.op.OpId.{OpId}
-use Rattle.gf_ops.specs.declared.change.Change.{Change}
-use Rattle.gf_ops.specs.Accepted.{IsAccepted}
-use Rattle.gf_ops.specs.Limits.{IsInRange}
 use Rattle.gf_ops.specs.OperationOrder.{id_cmp}
 use Rattle.gf_groups.specs.declared.group.Group.{Group}
-use Rattle.gf_site.specs.SiteState.{authored}
 use Rattle.gf_keep.specs.declared.keep.Keep.{Keep}
 use Rattle.gf_keep.specs.Keeping.{IsKept, IsShowing, hiding}
-
--- behind h, site s makes these operations of the changes, one behind the other
-pub data MakesEach (s : ℕ) : List Op → List Change → List Op → Type 0 where
-  none : {h : List Op} → MakesEach s h [] []
-  next : {h : List Op} {cs : List Change} {new : List Op} (c : Change)
-      → IsInRange (authored s h c) → IsAccepted h (authored s h c)
-      → MakesEach s (h ++ authored s h c ∷ []) cs new
-      → MakesEach s h (c ∷ cs) (authored s h c ∷ new)
 
 -- x is one of the new operations, and hides the object that k names
 pub record IsHide (k : Keep) (new : List Op) (x : Op) : Type 0 where

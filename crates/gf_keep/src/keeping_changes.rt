@@ -15,45 +15,36 @@ use crate::{Keep, KeepFault};
 use gf_base::OutOfMemory;
 use gf_groups::{Group, is_made};
 use gf_ops::{Change, History, Ids, ObjectId, OpId, Value};
-use gf_site::{GrowingHistory, Site};
 use std::alloc::Global;
 
-/// The changes by which a site keeps versions of an object. The first one hides the object without
-/// an aim. Then one shows each kept version, in the order of their ids. It aims at what tells the
-/// version from all operations on the object, and at what these aim at.
+/// The changes that keep versions of an object behind a history. The first one hides the object
+/// without an aim. Then one shows each kept version, in the order of their ids. It aims at what
+/// tells the version from all operations on the object, and at what these aim at.
 ///
 /// The versions of the history are made first. Each member of a kept version is compared
 /// with each operation on the object.
-pub fn keeping<H: GrowingHistory>(
-    alloc: Global,
-    site: &Site<H>,
-    keep: &Keep,
-) -> Result<Vec<Change>, KeepFault>
-    ensures changes { IfOk result (λ changes. AreKeeping site.now.ops keep.now changes.items) }
-    ensures refused { IfErr result (RefusesKeep site.now.ops keep.now) }
+pub fn keeping(alloc: Global, history: &History, keep: &Keep) -> Result<Vec<Change>, KeepFault>
+    ensures changes { IfOk result (λ changes. AreKeeping history.now.ops keep.now changes.items) }
+    ensures refused { IfErr result (RefusesKeep history.now.ops keep.now) }
 {
-    if !is_made(site.history(), keep.object) {
+    if !is_made(history, keep.object) {
         return Err(KeepFault::NoObject);
     }
-    let kept = kept_in(alloc, site, keep)?;
-    match changes_of(alloc, site.history(), keep.object, &kept) {
+    let kept = kept_in(alloc, history, keep)?;
+    match changes_of(alloc, history, keep.object, &kept) {
         Ok(changes) => Ok(changes),
         Err(OutOfMemory) => Err(KeepFault::OutOfMemory),
     }
 }
 
 /// The versions that are kept, at least one.
-fn kept_in<H: GrowingHistory>(
-    alloc: Global,
-    site: &Site<H>,
-    keep: &Keep,
-) -> Result<Vec<Group>, KeepFault>
-    requires { IsMade site.now.ops keep.now.object }
-    ensures kept { IfOk result (λ groups. AreKept site.now.ops keep.now groups.items) }
+fn kept_in(alloc: Global, history: &History, keep: &Keep) -> Result<Vec<Group>, KeepFault>
+    requires { IsMade history.now.ops keep.now.object }
+    ensures kept { IfOk result (λ groups. AreKept history.now.ops keep.now groups.items) }
     ensures some { IfOk result (λ groups. groups.items ≢ []) }
-    ensures refused { IfErr result (RefusesKeep site.now.ops keep.now) }
+    ensures refused { IfErr result (RefusesKeep history.now.ops keep.now) }
 {
-    let Some(groups) = kept_groups(alloc, site, keep)? else {
+    let Some(groups) = kept_groups(alloc, history, keep)? else {
         return Err(KeepFault::Range);
     };
     if is_none(&groups) {

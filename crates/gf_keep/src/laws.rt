@@ -8,7 +8,8 @@ ghost use Rattle.gf_ops.specs.declared.change.Change.{Change};
 ghost use Rattle.gf_ops.specs.declared.op.Op.{Op};
 ghost use Rattle.gf_visible.specs.ShownVersions.{IsVisibleGroup};
 ghost use Rattle.gf_keep.specs.Keeping.{AreKeeping, IsKept};
-ghost use Rattle.gf_keep.specs.MadeOf.{GoesOn, IsKeptOn, MakesEach};
+ghost use Rattle.gf_site.specs.MadeEach.{MakesEach};
+ghost use Rattle.gf_keep.specs.MadeOf.{GoesOn, IsKeptOn};
 ghost use Rattle.gf_keep.specs.declared.keep.Keep.{Keep};
 
 /// Behind what a site makes to keep some versions of an object, these are its visible versions, and

@@ -11,7 +11,6 @@ mod faults;
 mod keep;
 mod keeping_changes;
 mod laws;
-mod versioned;
 mod visible;
 
 pub use faults::KeepFault;

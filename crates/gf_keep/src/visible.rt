@@ -11,30 +11,28 @@ ghost use Rattle.gf_keep.specs.Keeping.{AreKept};
 ghost use Rattle.gf_keep.specs.KeepSteps.{has_all};
 
 use crate::Keep;
-use crate::versioned::versioned;
 use gf_base::OutOfMemory;
 use gf_groups::Group;
-use gf_ops::OpId;
-use gf_site::{GrowingHistory, Site};
-use gf_table::Versions;
+use gf_ops::{History, OpId};
+use gf_table::{VersionedHistory, Versions};
 use gf_versions::MOST_VERSIONS;
 use gf_visible::visible_groups;
 use std::alloc::Global;
 
 /// The visible versions that are kept, rising by their ids as a dictionary orders them. None where
 /// more than 1,000 versions of the object are visible.
-pub(crate) fn kept_groups<H: GrowingHistory>(
+pub(crate) fn kept_groups(
     alloc: Global,
-    site: &Site<H>,
+    history: &History,
     keep: &Keep,
 ) -> Result<Option<Vec<Group>>, OutOfMemory>
-    requires { IsMade site.now.ops keep.now.object }
+    requires { IsMade history.now.ops keep.now.object }
     ensures kept { IfOk result (λ found.
-        IfSome found (λ groups. AreKept site.now.ops keep.now groups.items)) }
+        IfSome found (λ groups. AreKept history.now.ops keep.now groups.items)) }
     ensures more { IfOk result (λ found.
-        IfNone found (HasMoreOn site.now.ops keep.now.object MOST_VERSIONS)) }
+        IfNone found (HasMoreOn history.now.ops keep.now.object MOST_VERSIONS)) }
 {
-    let versioned = versioned(alloc, site.history())?;
+    let versioned = VersionedHistory::of(alloc, history)?;
     kept_of(alloc, &versioned.versions(), keep)
 }
 

@@ -17,12 +17,12 @@ use Rattle.gf_base.proofs.ListLemmas.{Contains-cons_cases, Contains-cons_head, n
 use Rattle.gf_base.proofs.ListLemmas.{Contains-map, Contains-map_from}
 use Rattle.gf_base.proofs.FilterLemmas.{Contains-filter, list_any_true, list_any_false}
 use Rattle.gf_base.proofs.RisingLemmas.{one_rising, rising_nil}
-use Rattle.gf_maximal.proofs.InsertLemmas.{inserted, holds}
+use Rattle.gf_base.proofs.InsertLemmas.{inserted, holds}
 use Rattle.gf_maximal.proofs.LargestLemmas.{With, IsConflict, largest_with, largest_stays}
 use Rattle.gf_maximal.proofs.LargestLemmas.{largest_was, largest_alike}
 use Rattle.gf_maximal.proofs.ExtendingLemmas.{extended}
-use Rattle.gf_maximal.proofs.PairLemmas.{AllPairs-append, AllPairs-map, AllPairs-from_Pairs}
-use Rattle.gf_maximal.proofs.PairLemmas.{Pairs-from, Pairs-two}
+use Rattle.gf_base.proofs.PairLemmas.{AllPairs-append, AllPairs-map, AllPairs-from_Pairs}
+use Rattle.gf_base.proofs.PairLemmas.{Pairs-from, Pairs-two}
 use Rattle.gf_maximal.proofs.MaximalLemmas.{Within, Apart, IsMaximal, maximal_is, in_list}
 use Rattle.gf_maximal.proofs.MaximalLemmas.{from_list, is_within_from, intersects_one}
 use Rattle.gf_maximal.proofs.MaximalLemmas.{intersects_from}

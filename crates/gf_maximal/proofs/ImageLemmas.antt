@@ -10,8 +10,8 @@ use Rattle.gf_maximal.specs.LargestSets.{IsLargest, IsRising, AreLargestSets}
 use Rattle.gf_base.proofs.ListLemmas.{not_Contains-nil, Contains-map, Contains-map_from}
 use Rattle.gf_base.proofs.FilterLemmas.{Contains-filter}
 use Rattle.gf_base.proofs.RisingLemmas.{one_rising, rising_nil}
-use Rattle.gf_maximal.proofs.InsertLemmas.{inserted_all, holds_all}
-use Rattle.gf_maximal.proofs.PairLemmas.{AllPairs-map}
+use Rattle.gf_base.proofs.InsertLemmas.{inserted_all, holds_all}
+use Rattle.gf_base.proofs.PairLemmas.{AllPairs-map}
 use Rattle.gf_maximal.proofs.MaximalLemmas.{in_list, from_list}
 
 module _ (f : ℕ → ℕ) where

@@ -1,7 +1,5 @@
 pub mod LargestLemmas
 pub mod ExtendingLemmas
-pub mod InsertLemmas
-pub mod PairLemmas
 pub mod MaximalLemmas
 pub mod GrowingLemmas
 pub mod RunLemmas

@@ -9,11 +9,11 @@ use Rattle.std.proofs.lemmas.Bool.Decides.{Decides-eqb}
 use Rattle.std.proofs.lemmas.List.Elements.{Contains-append_left, Contains-push}
 use Rattle.std.proofs.lemmas.List.Elements.{Contains-push_cases}
 use Rattle.gf_maximal.specs.Growing.{is_in, intersects, without, is_within, take_up, maximal}
-use Rattle.gf_maximal.specs.Pairs.{Pairs}
+use Rattle.gf_base.specs.Pairs.{Pairs}
 use Rattle.gf_base.proofs.ListLemmas.{Contains-cons_cases, not_Contains-nil}
 use Rattle.gf_base.proofs.FilterLemmas.{Contains-filter, list_any_true, list_any_false}
 use Rattle.gf_base.proofs.FilterLemmas.{list_any_from, list_all_true, list_all_from}
-use Rattle.gf_maximal.proofs.PairLemmas.{Pairs-append, Pairs-filter}
+use Rattle.gf_base.proofs.PairLemmas.{Pairs-append, Pairs-filter}
 
 -- ---- the tests
 

@@ -20,7 +20,7 @@ use Rattle.gf_maximal.specs.LargestSets.{IsRising}
 use Rattle.gf_base.proofs.ListLemmas.{Contains-cons_cases, Contains-cons_head, Contains-cons_tail}
 use Rattle.gf_base.proofs.ListLemmas.{not_Contains-nil}
 use Rattle.gf_base.proofs.FilterLemmas.{list_any_true, list_any_from}
-use Rattle.gf_maximal.proofs.InsertLemmas.{inserted, holds}
+use Rattle.gf_base.proofs.InsertLemmas.{inserted, holds}
 use Rattle.gf_maximal.proofs.MaximalLemmas.{in_list, from_list}
 use Rattle.gf_maximal.proofs.RunLemmas.{nat_le_true, nat_le_from, nat_le_false, nat_lt_true}
 use Rattle.gf_maximal.proofs.RunLemmas.{nat_lt_false}

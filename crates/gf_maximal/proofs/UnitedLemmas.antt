@@ -20,7 +20,7 @@ use Rattle.gf_maximal.specs.Growing.{is_in, without, united, common}
 use Rattle.gf_maximal.specs.Runs.{members, AreRuns, pushed, single, IsGathered}
 use Rattle.gf_base.proofs.ListLemmas.{Contains-cons_cases, Contains-cons_head, Contains-cons_tail}
 use Rattle.gf_base.proofs.ListLemmas.{Contains-map, Contains-map_from, not_Contains-nil}
-use Rattle.gf_maximal.proofs.InsertLemmas.{inserted_all, holds_all}
+use Rattle.gf_base.proofs.InsertLemmas.{inserted_all, holds_all}
 use Rattle.gf_maximal.proofs.MaximalLemmas.{in_list, from_list, out_of, Contains-without}
 use Rattle.gf_maximal.proofs.RunLemmas.{nat_le_true, nat_le_false, nat_lt_true, nat_lt_false}
 use Rattle.gf_maximal.proofs.RunSetLemmas.{In, Has, in_members, of_one, has_one}

@@ -1,4 +1,3 @@
 pub mod LargestSets
-pub mod Pairs
 pub mod Growing
 pub mod Runs

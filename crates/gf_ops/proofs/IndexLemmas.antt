@@ -11,7 +11,7 @@ use Rattle.std.proofs.lemmas.List.Sums.{sum_by-append, sum_by-cons}
 use Rattle.gf_ops.specs.declared.op.Op.{Op}
 use Rattle.gf_ops.specs.declared.op.OpId.{OpId}
 use Rattle.gf_ops.specs.declared.op.Clock.{Clock}
-use Rattle.gf_ops.specs.Accepted.{IsAccepted}
+use Rattle.gf_ops.specs.Accepted.{IsAccepted, next}
 use Rattle.gf_ops.specs.HistoryIndex.{position, IsIndexed, IsHistory}
 use Rattle.gf_ops.specs.Limits.{IsInRange}
 use Rattle.gf_ops.specs.OperationOrder.{IsSite, count_of}
@@ -29,6 +29,7 @@ IsHistory-row h rows counts t =
     let longer : length (rows ++ replicate 8 0 ∷ []) ≡ length rows + 1 = length-append rows
     (replicate 8 0 ∷ []) in
     record {
+      accepted = t.accepted;
       valid = t.valid;
       counted = t.counted;
       reached = t.reached;
@@ -207,6 +208,7 @@ module _ (h : List Op) (rows : List (List ℕ)) (counts : Clock) (a : Op) (row :
   pub IsHistory-push : IsHistory (h ++ a ∷ []) grown
       (record { 0 = set counts.0 (a.id.site - 1) a.id.seq })
   IsHistory-push = record {
+    accepted = next t.accepted p;
     valid = IsValid-push h a t.valid r p.next p.suited p.aimed is_new (has_counted h rows counts t);
     counted = all_counted;
     reached = all_reached;

@@ -1,3 +1,4 @@
+pub mod AcceptedLemmas
 pub mod SameLemmas
 pub mod ValidityLemmas
 pub mod AimLemmas

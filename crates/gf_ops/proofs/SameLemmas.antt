@@ -6,8 +6,8 @@ use Rattle.std.specs.Ordering.{int_eq}
 use Rattle.std.proofs.lemmas.Bool.{and_parts}
 use Rattle.std.proofs.lemmas.Bool.Decides.{Decides-eqb, Decides-int_eq}
 use Rattle.std.proofs.lemmas.Slice.Eq.{slice_eq-Decides}
-use Rattle.gf_shape.specs.declared.point.Point.{Point}
-use Rattle.gf_shape.specs.declared.colour.Rgb.{Rgb}
+use Rattle.gf_plane.specs.declared.point.Point.{Point}
+use Rattle.gf_plane.specs.declared.colour.Rgb.{Rgb}
 use Rattle.gf_ops.specs.declared.op.OpId.{OpId}
 use Rattle.gf_ops.specs.declared.change.Value.{Value}
 use Rattle.gf_ops.specs.declared.change.Value.TheVariants.{Place, Points, Size, Colour, Layer}

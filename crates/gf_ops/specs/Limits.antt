@@ -2,9 +2,9 @@
 use Rattle.std.specs.Prelude.{ℕ, pos, negsuc, Bool, true, IsTrue, ◌&&◌}
 use Rattle.std.specs.Prelude.{nat_lt, nat_le, int_le, List, length}
 use Rattle.std.specs.List.{list_all}
-use Rattle.gf_shape.specs.declared.colour.Rgb.{Rgb}
-use Rattle.gf_shape.specs.declared.point.Point.{Point}
-use Rattle.gf_shape.specs.Polygons.{is_polygon_count}
+use Rattle.gf_plane.specs.declared.colour.Rgb.{Rgb}
+use Rattle.gf_plane.specs.declared.point.Point.{Point}
+use Rattle.gf_plane.specs.PointCounts.{is_polygon_count}
 use Rattle.gf_ops.specs.declared.op.Op.{Op}
 use Rattle.gf_ops.specs.declared.op.OpId.{OpId}
 use Rattle.gf_ops.specs.declared.op.Clock.{Clock}

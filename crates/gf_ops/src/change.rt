@@ -4,7 +4,7 @@ ghost use Rattle.std.specs.Prelude.{◌≡◌, ◌<◌};
 ghost use Rattle.gf_ops.specs.Attribute.{attribute_index, attribute_of};
 
 use crate::{Ids, ObjectId, Points};
-use gf_shape::{Point, Rgb};
+use gf_plane::{Point, Rgb};
 
 /// What an object has a value of. Boxes, circles and ellipses have no `Points`, polygons no `Size`.
 #[derive(Clone, Copy, Debug, PartialEq, Eq, PartialOrd, Ord)]

@@ -3,7 +3,7 @@
 ghost use Rattle.std.specs.Prelude.{◌≡◌, IfOk};
 
 use crate::{Change, Form, Op, Points, Start, Value};
-use gf_shape::OutOfMemory;
+use gf_base::OutOfMemory;
 use std::alloc::Global;
 
 impl Op {

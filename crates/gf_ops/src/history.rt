@@ -5,8 +5,7 @@ ghost use Rattle.std.specs.Prelude.{IsOk, IfOk, IfSome, IfNone, OnOk, OnErr};
 ghost use Rattle.gf_ops.specs.declared.op.Op.{Op};
 ghost use Rattle.gf_ops.specs.declared.history.History.{History};
 ghost use Rattle.gf_ops.specs.Accepted.{CountsAtMost, IsNumbered, IsCausallyClosed, IsNext};
-ghost use Rattle.gf_ops.specs.Accepted.{IsAccepted};
-ghost use Rattle.gf_ops.specs.Accepted.{IsRefused};
+ghost use Rattle.gf_ops.specs.Accepted.{AreAccepted, IsAccepted, IsRefused};
 ghost use Rattle.gf_ops.specs.Attribute.{kind_of, suits};
 ghost use Rattle.gf_ops.specs.KnownObject.{Knows, KnowsSome, IsFounded, IsSuited};
 ghost use Rattle.gf_ops.specs.Limits.{IsInRange};
@@ -16,7 +15,7 @@ ghost use Rattle.gf_ops.specs.ValidHistory.{IsWithin, IsValid};
 
 use crate::copying::copy_ops;
 use crate::{AddFault, Change, Clock, Form, ObjectId, Op, OpFault, OpId, Value, before};
-use gf_shape::OutOfMemory;
+use gf_base::OutOfMemory;
 use std::alloc::Global;
 use std::marker::Model;
 
@@ -112,6 +111,7 @@ impl History {
     /// The operations in the order of adding.
     pub fn ops(&self) -> &[Op]
         ensures ops { result.now ≡ self.now.ops }
+        ensures accepted { AreAccepted self.now.ops }
         ensures valid { IsValid self.now.ops }
     {
         &self.ops

@@ -6,7 +6,7 @@ ghost use Rattle.std.specs.Cmp.Rules.{comparing};
 ghost use Rattle.gf_ops.specs.SameIds.{ids_eq};
 
 use crate::OpId;
-use gf_shape::OutOfMemory;
+use gf_base::OutOfMemory;
 use std::alloc::Global;
 use std::marker::Model;
 

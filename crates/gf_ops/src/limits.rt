@@ -3,14 +3,14 @@
 ghost use Rattle.std.specs.Prelude.{◌≡◌, ◌∷◌, nat_lt};
 ghost use Rattle.std.specs.List.{list_all};
 ghost use Rattle.std.specs.Ordering.{is_lt};
-ghost use Rattle.gf_shape.specs.Polygons.{is_polygon_count};
+ghost use Rattle.gf_plane.specs.PointCounts.{is_polygon_count};
 ghost use Rattle.gf_ops.specs.Limits.{is_site, is_size, is_near, is_id, is_clock, is_polygon};
 ghost use Rattle.gf_ops.specs.Limits.{is_form, is_layer, is_value, is_change, is_in_range};
 ghost use Rattle.gf_ops.specs.Limits.{is_colour, is_start, is_aim};
 ghost use Rattle.gf_ops.specs.OperationOrder.{id_cmp, rises};
 
 use crate::{Change, Clock, Form, Op, OpId, Start, Value};
-use gf_shape::{Point, Rgb};
+use gf_plane::{Point, Rgb};
 
 impl Op {
     /// Whether the site, the number, the clock and the change of the operation keep the limits.

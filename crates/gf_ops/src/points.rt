@@ -5,7 +5,7 @@ ghost use Rattle.std.proofs.Common.{rules};
 ghost use Rattle.std.specs.Cmp.Rules.{comparing};
 ghost use Rattle.gf_ops.specs.SamePoints.{points_eq};
 
-use gf_shape::Point;
+use gf_plane::Point;
 use std::marker::Model;
 
 /// The points of a polygon, seen as their list.
@@ -16,7 +16,7 @@ pub struct Points {
 
 impl Model for Points {
     ghost use Rattle.std.specs.Prelude.{List};
-    ghost use Rattle.gf_shape.specs.declared.point.Point.{Point};
+    ghost use Rattle.gf_plane.specs.declared.point.Point.{Point};
 
     ghost Value = { List Point };
 

@@ -6,8 +6,8 @@ use Rattle.std.specs.Io.KnownBytes.{Appends}
 use Rattle.std.proofs.KnownBytes.{Appends-trans}
 use Rattle.std.proofs.lemmas.List.{length-append, take-append-le}
 use Rattle.std.proofs.Math.Seq.{take-append-add}
-use Rattle.gf_shape.specs.declared.colour.Rgb.{Rgb}
-use Rattle.gf_shape.specs.declared.point.Point.{Point}
+use Rattle.gf_plane.specs.declared.colour.Rgb.{Rgb}
+use Rattle.gf_plane.specs.declared.point.Point.{Point}
 use Rattle.gf_streams.specs.Taken.{AppendsPrefix}
 use Rattle.gf_scanline.proofs.RangeLemmas.{ranged_more}
 use Rattle.gf_scanline.specs.Pixels.{pixel}

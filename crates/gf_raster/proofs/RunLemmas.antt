@@ -6,8 +6,8 @@ use Rattle.std.proofs.lemmas.List.{get_or-map, length-map}
 use Rattle.std.specs.Fork.{GivesEach}
 use denote.Param.Members.{Shared}
 use Rattle.gf_base.specs.declared.memory.OutOfMemory.{OutOfMemory}
-use Rattle.gf_shape.specs.declared.colour.Rgb.{Rgb}
-use Rattle.gf_shape.specs.declared.point.Point.{Point}
+use Rattle.gf_plane.specs.declared.colour.Rgb.{Rgb}
+use Rattle.gf_plane.specs.declared.point.Point.{Point}
 use Rattle.gf_scanline.specs.Bands.{BandView}
 use Rattle.gf_scanline.specs.Picture.{rows}
 use Rattle.gf_scanline.specs.Windows.{View}

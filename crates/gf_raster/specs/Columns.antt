@@ -1,8 +1,8 @@
 -- What the workers fill of a band that they share. No public clause cites this module.
 use Rattle.std.specs.Prelude.{ℕ, ◌≡◌, ◌<◌, ◌+◌, ◌++◌, List, Vec, length, slice_index_or}
 use Rattle.std.proofs.Common.{Global}
-use Rattle.gf_shape.specs.declared.colour.Rgb.{Rgb}
-use Rattle.gf_shape.specs.declared.point.Point.{Point}
+use Rattle.gf_plane.specs.declared.colour.Rgb.{Rgb}
+use Rattle.gf_plane.specs.declared.point.Point.{Point}
 use Rattle.gf_scanline.specs.Windows.{View}
 use Rattle.gf_scanline.specs.Picture.{cells}
 use Rattle.gf_raster.specs.declared.shown_rows.ShownRows.{ShownRows}

@@ -1,8 +1,8 @@
 -- What rows of a window show, as strokes and as bytes. No public clause cites this module.
 use Rattle.std.specs.Prelude.{ℕ, ◌≡◌, ◌<◌, ◌+◌, Bool, List, Vec, flat_map, length, slice_index_or}
 use Rattle.std.proofs.Common.{Global}
-use Rattle.gf_shape.specs.declared.colour.Rgb.{Rgb}
-use Rattle.gf_shape.specs.declared.point.Point.{Point}
+use Rattle.gf_plane.specs.declared.colour.Rgb.{Rgb}
+use Rattle.gf_plane.specs.declared.point.Point.{Point}
 use Rattle.gf_scanline.specs.declared.stroke.Stroke.{Stroke}
 use Rattle.gf_scanline.specs.Bands.{BandView}
 use Rattle.gf_scanline.specs.Windows.{View}

@@ -3,8 +3,8 @@
 ghost use Rattle.std.specs.Prelude.{◌≡◌, ℕ, ◌+◌, ◌<◌, ◌++◌, OnOk, IfOk, Ok, length, map};
 ghost use Rattle.std.specs.Prelude.{vec_len};
 ghost use Rattle.std.specs.List.{flat_map};
-ghost use Rattle.gf_shape.specs.declared.colour.Rgb.{Rgb};
-ghost use Rattle.gf_shape.specs.declared.point.Point.{Point};
+ghost use Rattle.gf_plane.specs.declared.colour.Rgb.{Rgb};
+ghost use Rattle.gf_plane.specs.declared.point.Point.{Point};
 ghost use Rattle.gf_scanline.specs.Windows.{View};
 ghost use Rattle.gf_scanline.specs.Picture.{cells, rows};
 ghost use Rattle.gf_raster.specs.Shares.{cut};

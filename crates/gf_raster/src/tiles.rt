@@ -1,8 +1,8 @@
 //! The tiles of a band, filled behind their gates.
 
 ghost use Rattle.std.specs.Prelude.{◌≡◌, ℕ, ◌+◌, ◌≤◌, [], All, IfOk, OnOk, length, vec_len};
-ghost use Rattle.gf_shape.specs.declared.colour.Rgb.{Rgb};
-ghost use Rattle.gf_shape.specs.declared.point.Point.{Point};
+ghost use Rattle.gf_plane.specs.declared.colour.Rgb.{Rgb};
+ghost use Rattle.gf_plane.specs.declared.point.Point.{Point};
 ghost use Rattle.gf_scanline.specs.Windows.{View};
 ghost use Rattle.gf_raster.specs.Rows.{AreRows};
 ghost use Rattle.gf_raster.specs.Columns.{ArePiecesWith, HasPieces, HaveAllPieces};

@@ -34,6 +34,8 @@ pub fn read_replica<R: Threads + Sync, H: GrowingHistory>(
     ensures err { IfErr result (RefusesText text.items) }
 {
     let mut replica = Replica::new(alloc);
+    // The clause of `history` says that each operation was accepted.
+    let _ = replica.history();
     let Ok(mut block) = read_block(rt, alloc, TextLines::new(text), workers) else {
         return Err(ReadingError::OutOfMemory);
     };

@@ -35,7 +35,7 @@ use Rattle.gf_replicas.specs.World.{new_sites, holds, authors, receives, applies
 use Rattle.gf_replicas.specs.World.{start, next}
 use Rattle.gf_replicas.specs.Courses.{AreCourses, HaveEvents}
 use Rattle.gf_replicas.proofs.SitesLemmas.{length-new_sites, new_at}
-use Rattle.gf_replicas.proofs.GrowingLemmas.{fresh_id, course_valid}
+use Rattle.gf_site.proofs.ValidLemmas.{fresh_id, course_valid}
 use Rattle.gf_replicas.proofs.CutLemmas.{Comes, course_cut, Split, split_at}
 
 -- the site with the index k, with these operations

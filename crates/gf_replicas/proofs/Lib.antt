@@ -1,5 +1,4 @@
 pub mod SitesLemmas
-pub mod GrowingLemmas
 pub mod SoundLemmas
 pub mod HappenLemmas
 pub mod SettledLemmas

@@ -32,7 +32,7 @@ use Rattle.gf_replicas.specs.World.{Happens, authors, refuses, receives, no_mess
 use Rattle.gf_replicas.specs.World.{no_site, sent, offer_in, IsWorld, start, next}
 use Rattle.gf_replicas.specs.Visits.{IsOffered, new, offer, step}
 use Rattle.gf_replicas.specs.Settled.{HasHeardAll}
-use Rattle.gf_replicas.proofs.GrowingLemmas.{course_valid}
+use Rattle.gf_site.proofs.ValidLemmas.{course_valid}
 use Rattle.gf_replicas.proofs.SitesLemmas.{site_cases}
 use Rattle.gf_replicas.proofs.SoundLemmas.{taken_from, world_sound}
 

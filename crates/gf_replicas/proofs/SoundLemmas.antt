@@ -31,7 +31,7 @@ use Rattle.gf_replicas.specs.World.{idle, no_site, IsWorld, start, next as world
 use Rattle.gf_replicas.specs.Sound.{IsSiteOf, IsSound}
 use Rattle.gf_site.proofs.AuthorLemmas.{entry-clock_of}
 use Rattle.gf_site.proofs.CourseLemmas.{all_ready, course_accepted, course_ready}
-use Rattle.gf_replicas.proofs.GrowingLemmas.{valid_nil, valid_push, fresh_id, course_valid}
+use Rattle.gf_site.proofs.ValidLemmas.{valid_nil, valid_push, fresh_id, course_valid}
 use Rattle.gf_replicas.proofs.SitesLemmas.{new_at, site_cases}
 
 -- ---- what a site adds

@@ -27,7 +27,8 @@ use Rattle.gf_rivals.specs.Aimed.{AimedState, AimsAtOne, AreAimed, AreKeysOf, Co
 use Rattle.gf_rivals.specs.Aimed.{ConflictsWithOne, IsConflict, IsRivalOfBrought, op_at}
 use Rattle.gf_rivals.specs.Logs.{position_of}
 use Rattle.gf_rivals.specs.Rivals.{IsDirect, IsKey, AreLogsOf}
-use Rattle.gf_rivals.proofs.KeyLemmas.{some_one, contained_at, key_from, one_position}
+use Rattle.gf_base.proofs.PositionLemmas.{contained_at}
+use Rattle.gf_rivals.proofs.KeyLemmas.{some_one, key_from, one_position}
 use Rattle.gf_rivals.proofs.KeyLemmas.{position_is}
 
 -- ---- what makes an object conflicts with nothing

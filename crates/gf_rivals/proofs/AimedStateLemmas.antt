@@ -21,7 +21,8 @@ use Rattle.gf_rivals.specs.Rivals.{IsKey, AreLogsOf}
 use Rattle.gf_rivals.proofs.SetterIndexLemmas.{log_key}
 use Rattle.gf_rivals.proofs.LongerLemmas.{get_front, get_within, get_last}
 use Rattle.gf_rivals.proofs.NextLemmas.{fresh}
-use Rattle.gf_rivals.proofs.KeyLemmas.{some_one, contained_at, key_within}
+use Rattle.gf_base.proofs.PositionLemmas.{contained_at}
+use Rattle.gf_rivals.proofs.KeyLemmas.{some_one, key_within}
 use Rattle.gf_rivals.proofs.LogLemmas.{last_key, key_cases, numbered}
 
 -- no operation aims at any

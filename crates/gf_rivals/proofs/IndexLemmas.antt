@@ -9,7 +9,7 @@ use Rattle.std.specs.Ordering.{nat_cmp}
 use Rattle.std.proofs.lemmas.Bool.{cases_Bool, cases_lt, cond-true, cond-false}
 use Rattle.std.proofs.lemmas.Cmp.{nat_cmp_total}
 use Rattle.gf_maximal.specs.Growing.{joined}
-use Rattle.gf_maximal.proofs.InsertLemmas.{holds}
+use Rattle.gf_base.proofs.InsertLemmas.{holds}
 use Rattle.gf_ops.specs.declared.op.Op.{Op}
 use Rattle.gf_rivals.specs.declared.log.Setter.{Setter}
 use Rattle.gf_rivals.specs.declared.fingerprint.Fingerprint.{Fingerprint}

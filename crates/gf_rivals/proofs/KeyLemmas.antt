@@ -35,10 +35,6 @@ got_at [] i x e = absurd cc
 got_at (y ∷ xs) zero x e = (omega arith, some_one y x e)
 got_at (y ∷ xs) (suc i) x e = let w = got_at xs i x e in (let l = w.0 in omega arith, w.1)
 
-pub contained_at : {X : Type 0} (xs : List X) (i : ℕ) (x : X) → slice_get xs i ≡ Some x
-    → Contains xs x
-contained_at xs i x e = let w = got_at xs i x e in (i, w.0, w.1)
-
 -- the attribute that a setter sets
 abbrev attribute_set : Change → Attr
 attribute_set (Create start) = Place

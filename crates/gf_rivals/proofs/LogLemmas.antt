@@ -33,7 +33,7 @@ use Rattle.gf_rivals.proofs.LongerLemmas.{get_front, get_within, get_last, get_c
 use Rattle.gf_rivals.proofs.LongerLemmas.{set_else, set_back}
 use Rattle.gf_rivals.proofs.NextLemmas.{earlier}
 use Rattle.gf_rivals.proofs.KeyLemmas.{some_one}
-use Rattle.gf_rivals.proofs.KeyLemmas.{contained_at}
+use Rattle.gf_base.proofs.PositionLemmas.{contained_at}
 use Rattle.gf_rivals.proofs.KeyLemmas.{key_within}
 use Rattle.gf_rivals.proofs.SetterIndexLemmas.{log_key}
 use Rattle.gf_rivals.proofs.SetterLemmas.{setters_push, at_index}

@@ -4,16 +4,14 @@ use Rattle.std.proofs.Common.{List, [], ◌∷◌, ◌++◌, length, inl, inr, r
 use Rattle.std.proofs.Common.{◌∙◌, arith}
 use Rattle.std.specs.Prelude.{◌⊎◌, ◌↔◌, Contains, IsTrue, drop, nat_le, Option, Some, None}
 use Rattle.std.specs.Prelude.{slice_get, slice_index_or}
-use Rattle.std.specs.Ordering.{nat_cmp, MatchOrdering}
-use Rattle.std.specs.declared.cmp.Ordering.{Ordering}
-use Rattle.std.specs.declared.cmp.Ordering.TheVariants.{Less}
+use Rattle.std.specs.Ordering.{nat_cmp}
 use Rattle.std.proofs.lemmas.Bool.{cases_Bool, cases_eq, cases_lt, leb-true, le-leb}
-use Rattle.std.proofs.lemmas.Cmp.{nat_cmp_total, ranked}
+use Rattle.std.proofs.lemmas.Cmp.{nat_cmp_total}
 use Rattle.std.proofs.lemmas.List.Elements.{Contains-append_left, Contains-push}
 use Rattle.std.proofs.lemmas.List.Elements.{Contains-push_cases}
 use Rattle.std.proofs.lemmas.Map.Keys.{sorted_tail}
 use Rattle.gf_maximal.specs.LargestSets.{IsRising}
-use Rattle.gf_base.proofs.RisingLemmas.{below_tail}
+use Rattle.gf_base.proofs.RisingLemmas.{below_from_less, below_tail}
 use Rattle.std.proofs.lemmas.List.{drop_all, drop_more, get_or_default}
 use Rattle.gf_ops.specs.declared.op.Op.{Op}
 use Rattle.gf_ops.specs.declared.op.OpId.{OpId}
@@ -45,7 +43,8 @@ use Rattle.gf_rivals.specs.SetterIndexes.{setter_of}
 use Rattle.gf_rivals.specs.declared.setter_index.SetterIndex.{SetterIndex}
 use Rattle.gf_rivals.specs.Setters.{IsCountUpTo}
 use Rattle.gf_rivals.proofs.AimRivalLemmas.{conflict_keys}
-use Rattle.gf_rivals.proofs.KeyLemmas.{some_one, contained_at, got_at, index_short, position_is}
+use Rattle.gf_base.proofs.PositionLemmas.{contained_at}
+use Rattle.gf_rivals.proofs.KeyLemmas.{some_one, got_at, index_short, position_is}
 use Rattle.gf_ops.proofs.AttributeLemmas.{one_attribute}
 use Rattle.gf_rivals.proofs.RivalLemmas.{given_is, own_value}
 use Rattle.gf_rivals.proofs.SetterIndexLemmas.{log_key, setter_of-log_key}
@@ -654,10 +653,6 @@ module _ (h : List Op) (ls : List (List Setter)) where
     }
 
 -- ---- rising keys from behind
-
-below_from_less : (a b : ℕ) → nat_cmp a b ≡ Less → a < b
-below_from_less a b e = subst (λ (o : Ordering). MatchOrdering o (a < b) (a ≡ b) (b < a)) e
-    (ranked a b (nat_cmp a b) refl)
 
 rising_drop : (xs : List ℕ) → IsRising xs → (k d : ℕ) → k < length xs → (u : ℕ)
     → Contains (drop (k + 1) xs) u → slice_index_or xs k d < u

@@ -24,7 +24,8 @@ use Rattle.gf_rivals.specs.Giving.{value_set}
 use Rattle.gf_rivals.specs.Naming.{AddsNamed, HasSeq, IsNamed, IsSetterKey}
 use Rattle.gf_rivals.specs.Rivals.{AreLogsOf}
 use Rattle.gf_rivals.proofs.IndexLemmas.{Contains-joined}
-use Rattle.gf_rivals.proofs.KeyLemmas.{some_one, contained_at}
+use Rattle.gf_base.proofs.PositionLemmas.{contained_at}
+use Rattle.gf_rivals.proofs.KeyLemmas.{some_one}
 use Rattle.gf_rivals.proofs.SetterIndexLemmas.{log_key}
 
 -- ---- in one log

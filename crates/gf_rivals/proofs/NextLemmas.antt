@@ -1,8 +1,8 @@
 -- The next operation of a valid history: no operation has its id, or knows it, and each of its site
 -- has a smaller key.
-use Rattle.std.proofs.Common.{◌≡◌, ◌≢◌, ℕ, zero, suc, ◌≤◌, ◌<◌, ◌+◌, List, [], ◌∷◌, map, length}
-use Rattle.std.proofs.Common.{refl, ap, sym, subst, ◌∙◌, inl, inr, arith}
-use Rattle.std.specs.Prelude.{◌⊎◌, Contains, filter, nat_eq}
+use Rattle.std.proofs.Common.{◌≡◌, ◌≢◌, ℕ, zero, suc, ◌≤◌, ◌<◌, List, map, length}
+use Rattle.std.proofs.Common.{refl, ap, subst, ◌∙◌, inl, inr, arith}
+use Rattle.std.specs.Prelude.{Contains, filter, nat_eq}
 use Rattle.std.proofs.lemmas.Bool.{cases_lt}
 use Rattle.std.proofs.lemmas.Bool.Decides.{Decides-eqb}
 use Rattle.std.proofs.lemmas.List.{length-map}
@@ -14,33 +14,9 @@ use Rattle.gf_ops.specs.Limits.{IsInRange}
 use Rattle.gf_ops.specs.OperationOrder.{Precedes, count_of}
 use Rattle.gf_ops.specs.ValidHistory.{IsValid}
 use Rattle.gf_ops.proofs.HistoryLemmas.{site_in_range, seq_in_range}
-use Rattle.gf_base.proofs.ListLemmas.{Contains-map, Contains-cons_cases, Contains-cons_head}
-use Rattle.gf_base.proofs.ListLemmas.{Contains-cons_tail, not_Contains-nil}
+use Rattle.gf_base.proofs.ListLemmas.{Contains-map}
+use Rattle.gf_base.proofs.CountLemmas.{taken_out}
 use Rattle.gf_base.proofs.FilterLemmas.{Contains-filter}
-
--- the list ks with x taken out of it
-record Without (x : OpId) (ks : List OpId) : Type 0 where
-  rest : List OpId
-  shorter : length ks ≡ length rest + 1
-  keeps : (y : OpId) → Contains ks y → (y ≡ x) ⊎ Contains rest y
-
-taken_out : (x : OpId) (ks : List OpId) → Contains ks x → Without x ks
-taken_out x [] h = absurd (not_Contains-nil x h)
-taken_out x (k ∷ ks) h = elim (Contains-cons_cases k ks x h) [
-  | inl e ↦ record {
-    rest = ks;
-    shorter = omega arith;
-    keeps = λ y i. elim (Contains-cons_cases k ks y i) [ inl d ↦ inl (d ∙ sym e) | inr j ↦ inr j ];
-  }
-  | inr i ↦ let w = taken_out x ks i in record {
-    rest = k ∷ w.rest;
-    shorter = let s = w.shorter in omega arith;
-    keeps = λ y j. elim (Contains-cons_cases k ks y j) [
-      | inl d ↦ inr (subst (Contains (k ∷ w.rest)) (sym d) (Contains-cons_head k w.rest))
-      | inr l ↦ elim (w.keeps y l) [ inl d ↦ inl d | inr r ↦ inr (Contains-cons_tail k w.rest y r) ]
-    ];
-  }
-]
 
 -- the id of the site's operation with the key k
 abbrev numbered : ℕ → ℕ → OpId

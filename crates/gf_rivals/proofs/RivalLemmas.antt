@@ -34,7 +34,8 @@ use Rattle.gf_rivals.specs.declared.log.Setter.{Setter}
 use Rattle.gf_rivals.specs.Logs.{log_of, setters, position_of, IsUnknown}
 use Rattle.gf_rivals.specs.Rivals.{IsKey, AreLogsOf, GivesAt, AreRivals, IsDirect}
 use Rattle.gf_rivals.proofs.NextLemmas.{fresh, unknown}
-use Rattle.gf_rivals.proofs.KeyLemmas.{some_one, contained_at, one_position, position_is}
+use Rattle.gf_base.proofs.PositionLemmas.{contained_at}
+use Rattle.gf_rivals.proofs.KeyLemmas.{some_one, one_position, position_is}
 use Rattle.gf_rivals.proofs.KeyLemmas.{key_from}
 use Rattle.gf_rivals.proofs.SetterIndexLemmas.{log_key}
 

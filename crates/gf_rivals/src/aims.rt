@@ -8,9 +8,9 @@ ghost use Rattle.gf_rivals.specs.Comparing.{AddsIf};
 ghost use Rattle.gf_rivals.specs.Naming.{AddsNamed, IsNamed, IsNamedOn};
 
 use crate::logs::Logs;
+use gf_base::OutOfMemory;
 use gf_maximal::Numbers;
 use gf_ops::{Change, History, OpId};
-use gf_shape::OutOfMemory;
 use std::alloc::Global;
 use std::marker::Model;
 

@@ -11,9 +11,9 @@ use crate::fingerprint::{fingerprint_of, has_own_fingerprint};
 use crate::giving::key_gives;
 use crate::index::Index;
 use crate::logs::Logs;
+use gf_base::OutOfMemory;
 use gf_maximal::Numbers;
 use gf_ops::{History, Op, Value};
-use gf_shape::OutOfMemory;
 use std::alloc::Global;
 
 /// Adds the key, if its setter gives the value.

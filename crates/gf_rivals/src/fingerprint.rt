@@ -5,7 +5,7 @@ ghost use Rattle.gf_rivals.specs.Fingerprints.{point_fingerprint, fingerprint_of
 ghost use Rattle.gf_rivals.specs.Fingerprints.{has_own_fingerprint};
 
 use gf_ops::{Attr, Value};
-use gf_shape::{Point, Rgb};
+use gf_plane::{Point, Rgb};
 
 /// The attribute of a value and three numbers of it. They determine the value, but of a list of
 /// points only the first one.

@@ -8,7 +8,7 @@ ghost use Rattle.gf_rivals.specs.KeptLogs.{log_at, AreBelow, PutsLog, KeepsLogs}
 ghost use Rattle.gf_rivals.specs.KeptLogs.{KeepsNoOthers};
 
 use crate::log::Log;
-use gf_shape::OutOfMemory;
+use gf_base::OutOfMemory;
 use std::alloc::Global;
 use std::collections::BTreeMap;
 

@@ -8,8 +8,8 @@ ghost use Rattle.gf_rivals.specs.Setters.{IsCountUpTo, IsKeyAbove};
 ghost use Rattle.gf_rivals.specs.declared.logs.TheConstants.{LOGS};
 
 use crate::setter_index::SetterIndex;
+use gf_base::OutOfMemory;
 use gf_maximal::Numbers;
-use gf_shape::OutOfMemory;
 use std::alloc::Global;
 use std::marker::Model;
 

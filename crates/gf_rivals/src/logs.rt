@@ -19,9 +19,9 @@ ghost use Rattle.gf_rivals.specs.declared.setter_index.TheConstants.{FIRST_ABOVE
 use crate::kept::{KeptLogs, copied, pop_from, push_to};
 use crate::log::Log;
 use crate::setter_index::SetterIndex;
+use gf_base::OutOfMemory;
 use gf_maximal::Numbers;
 use gf_ops::{Attr, Clock, OpId};
-use gf_shape::OutOfMemory;
 use std::alloc::Global;
 use std::collections::BTreeMap;
 use std::marker::Model;

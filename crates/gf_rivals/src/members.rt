@@ -15,9 +15,9 @@ ghost use Rattle.gf_rivals.specs.declared.setter_index.TheConstants.{FIRST_ABOVE
 use crate::giving::{key_gives, op_value};
 use crate::logs::Logs;
 use crate::setter_index::SetterIndex;
+use gf_base::OutOfMemory;
 use gf_maximal::Numbers;
 use gf_ops::{History, Op, Value, direct_conflict};
-use gf_shape::OutOfMemory;
 use std::alloc::Global;
 
 /// A setter by its key, and the next one of its log that gives another value.

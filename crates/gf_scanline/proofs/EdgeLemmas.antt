@@ -9,7 +9,7 @@ use Rattle.std.proofs.lemmas.Int.{ints}
 use Rattle.gf_spans.specs.declared.span.Span.{Span}
 use Rattle.gf_spans.specs.Spans.{is_empty}
 use Rattle.gf_spans.specs.Joining.{IsJoined}
-use Rattle.gf_shape.specs.declared.point.Point.{Point}
+use Rattle.gf_plane.specs.declared.point.Point.{Point}
 use Rattle.gf_shape.specs.FigureMeaning.{chain_holds}
 use Rattle.gf_shape.specs.Ring.{IsRing, Ring}
 use Rattle.gf_shape.proofs.RowShapes.{end_of-ring}
@@ -19,7 +19,7 @@ use Rattle.gf_shape.specs.Rows.{IsRow}
 use Rattle.std.proofs.lemmas.Grind.{flat_map-append}
 use Rattle.std.proofs.lemmas.List.{append-nil, take_all}
 use Rattle.std.proofs.lemmas.List.Elements.{All-append, All-cons, All-drop, All-nil}
-use Rattle.gf_shape.specs.Reach.{is_within_reach}
+use Rattle.gf_plane.specs.Reach.{is_within_reach}
 use Rattle.gf_spans.proofs.PairLemmas.{any_append}
 use Rattle.gf_shape.proofs.RowPaths.{closed_parity, full_contacts_of, path_crosses, path_edges}
 use Rattle.gf_scanline.specs.declared.edge.Edge.{Edge}

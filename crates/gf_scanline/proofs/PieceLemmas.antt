@@ -9,8 +9,8 @@ use Rattle.std.proofs.Math.Nat.{mul-le-mul}
 use Rattle.gf_spans.specs.declared.span.Span.{Span}
 use Rattle.gf_spans.specs.Spans.{is_in_span}
 use Rattle.gf_shape.specs.declared.bounds.Bounds.{Bounds}
-use Rattle.gf_shape.specs.declared.colour.Rgb.{Rgb}
-use Rattle.gf_shape.specs.declared.point.Point.{Point}
+use Rattle.gf_plane.specs.declared.colour.Rgb.{Rgb}
+use Rattle.gf_plane.specs.declared.point.Point.{Point}
 use Rattle.gf_shape.specs.ShapeLaws.{IsBounds}
 use Rattle.gf_scanline.specs.declared.columns.Columns.{Columns}
 use Rattle.gf_scanline.specs.Bands.{BandView}

@@ -15,7 +15,7 @@ use Rattle.gf_spans.specs.Crossings.{is_at, is_before}
 use Rattle.gf_spans.specs.Spans.{is_in_span}
 use Rattle.gf_spans.specs.Joining.{is_enclosed}
 use Rattle.gf_spans.proofs.PairLemmas.{any_append}
-use Rattle.gf_shape.specs.declared.point.Point.{Point}
+use Rattle.gf_plane.specs.declared.point.Point.{Point}
 use Rattle.gf_shape.specs.Edges.{side, is_between, is_on_edge, is_on_line, crosses_left}
 use Rattle.gf_shape.specs.Laws.Sides.{side-right_up, side-right_down, side-left_up, side-left_down}
 use Rattle.gf_shape.specs.RowParts.{contacts_of, crossing, crossings_of, passes}

@@ -10,11 +10,11 @@ use Rattle.std.proofs.Math.ListN.{drop_of_length-le}
 use Rattle.gf_spans.specs.declared.span.Span.{Span}
 use Rattle.gf_spans.specs.Spans.{is_in_span}
 use Rattle.gf_shape.specs.declared.bounds.Bounds.{Bounds}
-use Rattle.gf_shape.specs.declared.colour.Rgb.{Rgb}
-use Rattle.gf_shape.specs.declared.point.Point.{Point}
+use Rattle.gf_plane.specs.declared.colour.Rgb.{Rgb}
+use Rattle.gf_plane.specs.declared.point.Point.{Point}
 use Rattle.gf_shape.specs.Rows.{IsRow}
 use Rattle.gf_shape.specs.ShapeLaws.{IsBounds}
-use Rattle.gf_shape.specs.White.{white}
+use Rattle.gf_plane.specs.White.{white}
 use Rattle.gf_scanline.specs.Strips.{Shown, over, IsPainted}
 use Rattle.gf_scanline.specs.Windows.{View, column, line, sample}
 use Rattle.gf_scanline.specs.declared.layer.Layer.{Layer}

@@ -10,7 +10,7 @@ use Rattle.std.proofs.lemmas.List.{append-nil, get_or_default}
 use Rattle.std.proofs.lemmas.List.Elements.{Contains-append_right}
 use Rattle.std.proofs.lemmas.List.Folds.{Any-from_list_any}
 use Rattle.std.proofs.Math.ListN.{drop_of_length-le}
-use Rattle.gf_shape.specs.declared.colour.Rgb.{Rgb}
+use Rattle.gf_plane.specs.declared.colour.Rgb.{Rgb}
 use Rattle.gf_scanline.specs.declared.segment.Segment.{Segment}
 use Rattle.gf_scanline.specs.declared.stroke.Stroke.{Stroke}
 use Rattle.gf_scanline.specs.Pixels.{pixels}

@@ -1,8 +1,8 @@
 -- Which edges of a path come between two heights (this project's choice).
 use Rattle.std.specs.Prelude.{ℤ, int_le, Bool, ◌&&◌, ◌||◌, cond, IsTrue, List, []}
 use Rattle.std.specs.Prelude.{◌∷◌, ◌++◌}
-use Rattle.gf_shape.specs.declared.point.Point.{Point}
-use Rattle.gf_shape.specs.Reach.{is_within_reach}
+use Rattle.gf_plane.specs.declared.point.Point.{Point}
+use Rattle.gf_plane.specs.Reach.{is_within_reach}
 use Rattle.gf_scanline.specs.declared.edge.Edge.{Edge}
 
 -- both points of the edge lie within reach

@@ -1,12 +1,12 @@
 -- Layers over a white ground, the foremost first (this project's choice).
 use Rattle.std.specs.Prelude.{◌≡◌, ℕ, Bool, All, List, [], ◌∷◌, Option, IfSome}
 use Rattle.std.specs.Prelude.{if◌then◌else◌}
-use Rattle.gf_shape.specs.declared.colour.Rgb.{Rgb}
-use Rattle.gf_shape.specs.declared.point.Point.{Point}
+use Rattle.gf_plane.specs.declared.colour.Rgb.{Rgb}
+use Rattle.gf_plane.specs.declared.point.Point.{Point}
 use Rattle.gf_shape.specs.declared.outline.Outline.TheVariants.{Chain}
 use Rattle.gf_shape.specs.Ring.{Ring}
 use Rattle.gf_shape.specs.ShapeLaws.{IsBounds, IsOutlineOf}
-use Rattle.gf_shape.specs.White.{white}
+use Rattle.gf_plane.specs.White.{white}
 use Rattle.gf_scanline.specs.Windows.{View, sample}
 use Rattle.gf_scanline.specs.declared.layer.Layer.{Layer}
 

@@ -1,6 +1,6 @@
 -- Bands, with the layers that they show (this project's choice).
 use Rattle.std.specs.Prelude.{ℕ, Bool, List, All}
-use Rattle.gf_shape.specs.declared.point.Point.{Point}
+use Rattle.gf_plane.specs.declared.point.Point.{Point}
 use Rattle.gf_scanline.specs.Bands.{BandView, HasRow}
 use Rattle.gf_scanline.specs.declared.layer.Layer.{Layer}
 use Rattle.gf_scanline.specs.declared.piece.Piece.{Piece}

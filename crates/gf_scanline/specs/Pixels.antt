@@ -1,7 +1,7 @@
 -- The pixels of a row as bytes (Netpbm, ppm(5): three bytes a pixel, red, green and blue).
 use Rattle.std.specs.Prelude.{ℕ, List, [], ◌∷◌, flat_map}
 use Rattle.std.specs.List.{range_with_len}
-use Rattle.gf_shape.specs.declared.colour.Rgb.{Rgb}
+use Rattle.gf_plane.specs.declared.colour.Rgb.{Rgb}
 
 -- the bytes of a pixel
 abbrev pub pixel : Rgb → List ℕ

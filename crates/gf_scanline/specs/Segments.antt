@@ -1,6 +1,6 @@
 -- Columns in one colour, in any order. No public clause cites this module.
 use Rattle.std.specs.Prelude.{ℕ, ◌≡◌, ◌<◌, true, List, Contains, map}
-use Rattle.gf_shape.specs.declared.colour.Rgb.{Rgb}
+use Rattle.gf_plane.specs.declared.colour.Rgb.{Rgb}
 use Rattle.gf_scanline.specs.declared.segment.Segment.{Segment}
 use Rattle.gf_scanline.specs.Columns.{is_among}
 use Rattle.gf_scanline.specs.Strips.{SegmentView, is_painted}

@@ -3,7 +3,7 @@
 use Rattle.std.specs.Prelude.{ℕ, ◌≡◌, ◌<◌, Bool, true, false, ◌||◌, if◌then◌else◌}
 use Rattle.std.specs.Prelude.{List, Contains}
 use Rattle.std.specs.List.{list_any}
-use Rattle.gf_shape.specs.declared.colour.Rgb.{Rgb}
+use Rattle.gf_plane.specs.declared.colour.Rgb.{Rgb}
 use Rattle.gf_scanline.specs.declared.columns.Columns.{Columns}
 use Rattle.gf_scanline.specs.Columns.{is_among}
 use Rattle.gf_scanline.specs.Free.{is_free}

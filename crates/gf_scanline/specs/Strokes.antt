@@ -1,7 +1,7 @@
 -- What a row shows as strokes, from the left (this project's choice).
 use Rattle.std.specs.Prelude.{ℕ, ◌≡◌, ◌≤◌, ◌<◌, List, [], ◌∷◌, length}
 use Rattle.std.specs.Prelude.{slice_index_or}
-use Rattle.gf_shape.specs.declared.colour.Rgb.{Rgb}
+use Rattle.gf_plane.specs.declared.colour.Rgb.{Rgb}
 use Rattle.gf_scanline.specs.declared.stroke.Stroke.{Stroke}
 
 -- the strokes from column a on have the colours of target, up to column n

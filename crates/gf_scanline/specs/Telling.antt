@@ -3,7 +3,7 @@ use Rattle.std.specs.Prelude.{◌≡◌, ◌%◌, Bool, ℤ, List, flat_map, len
 use Rattle.gf_spans.specs.declared.crossing.Crossing.{Crossing}
 use Rattle.gf_spans.specs.declared.span.Span.{Span}
 use Rattle.gf_spans.specs.Joining.{is_enclosed}
-use Rattle.gf_shape.specs.declared.point.Point.{Point}
+use Rattle.gf_plane.specs.declared.point.Point.{Point}
 use Rattle.gf_shape.specs.RowParts.{contacts_of, crossings_of}
 use Rattle.gf_scanline.specs.declared.edge.Edge.{Edge}
 

@@ -1,7 +1,7 @@
 -- Windows and their sample points (this project's choice).
 use Rattle.std.specs.Prelude.{ℕ, ◌*◌, Bool, ◌&&◌, nat_le, ℤ, pos, negsuc, ◌+ℤ◌}
 use Rattle.std.specs.Prelude.{int_le}
-use Rattle.gf_shape.specs.declared.point.Point.{Point}
+use Rattle.gf_plane.specs.declared.point.Point.{Point}
 use Rattle.gf_scanline.specs.Frames.{is_side}
 
 -- the part of the plane that a picture shows: first point, step between points, number of columns

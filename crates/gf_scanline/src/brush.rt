@@ -1,7 +1,7 @@
 //! Colours that are ready to be painted.
 
 ghost use Rattle.std.specs.Prelude.{◌≡◌, ◌++◌, IfOk, OnOk, length};
-ghost use Rattle.gf_shape.specs.declared.colour.Rgb.{Rgb};
+ghost use Rattle.gf_plane.specs.declared.colour.Rgb.{Rgb};
 ghost use Rattle.gf_scanline.specs.Pixels.{pixels};
 
 use gf_shape::{OutOfMemory, Rgb};
@@ -20,7 +20,7 @@ pub struct Brush {
 
 impl Model for Brush {
     ghost use Rattle.std.specs.Prelude.{◌≡◌};
-    ghost use Rattle.gf_shape.specs.declared.colour.Rgb.{Rgb};
+    ghost use Rattle.gf_plane.specs.declared.colour.Rgb.{Rgb};
     ghost use Rattle.gf_scanline.specs.Pixels.{pixels};
 
     ghost Value = { Rgb };

@@ -2,7 +2,7 @@
 
 ghost use Rattle.std.specs.Prelude.{◌≡◌, ◌++◌, ◌%◌, [], Bool, All, OnOk, length};
 ghost use Rattle.gf_spans.specs.Joining.{IsJoined};
-ghost use Rattle.gf_shape.specs.declared.point.Point.{Point};
+ghost use Rattle.gf_plane.specs.declared.point.Point.{Point};
 ghost use Rattle.gf_scanline.specs.Between.{IsWithinReach};
 ghost use Rattle.gf_scanline.specs.Telling.{contacts_at, crossings_at};
 

@@ -4,9 +4,9 @@ ghost use Rattle.std.specs.Prelude.{◌≡◌, ◌++◌, ◌%◌, ◌≤ℤ◌, 
 ghost use Rattle.std.specs.Prelude.{length};
 ghost use Rattle.gf_spans.specs.declared.span.Span.{Span as TheSpan};
 ghost use Rattle.gf_spans.specs.Spans.{is_in_span};
-ghost use Rattle.gf_shape.specs.declared.point.Point.{Point};
+ghost use Rattle.gf_plane.specs.declared.point.Point.{Point};
 ghost use Rattle.gf_shape.specs.FigureMeaning.{chain_holds};
-ghost use Rattle.gf_shape.specs.Reach.{is_within_reach};
+ghost use Rattle.gf_plane.specs.Reach.{is_within_reach};
 ghost use Rattle.gf_shape.specs.Rows.{IsRow};
 ghost use Rattle.gf_scanline.specs.declared.edge.Edge.{Edge as TheEdge};
 ghost use Rattle.gf_scanline.specs.Between.{between_along, between_of};

@@ -1,7 +1,7 @@
 //! The layers of a drawing.
 
 ghost use Rattle.std.specs.Prelude.{◌≡◌, All, IfOk, IfSome, map};
-ghost use Rattle.gf_shape.specs.declared.point.Point.{Point};
+ghost use Rattle.gf_plane.specs.declared.point.Point.{Point};
 ghost use Rattle.gf_figures.specs.DrawingColour.{drawing_colour, figure_colour};
 ghost use Rattle.gf_scanline.specs.Layers.{IsChainOf, IsLayer, layered};
 ghost use Rattle.gf_scanline.specs.Seen.{seen, seen_figure};

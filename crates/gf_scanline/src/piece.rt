@@ -4,7 +4,7 @@ ghost use Rattle.std.specs.Prelude.{◌≡◌, ℕ, ℤ, ◌≤ℤ◌, Bool, tru
 ghost use Rattle.std.specs.Prelude.{IfSome, None};
 ghost use Rattle.gf_scanline.specs.Telling.{TellsRow};
 ghost use Rattle.gf_spans.specs.Spans.{is_in_span};
-ghost use Rattle.gf_shape.specs.declared.point.Point.{Point};
+ghost use Rattle.gf_plane.specs.declared.point.Point.{Point};
 ghost use Rattle.gf_shape.specs.Rows.{IsRow};
 ghost use Rattle.gf_shape.specs.ShapeLaws.{IsBounds};
 ghost use Rattle.gf_scanline.specs.Bands.{HasRow};

@@ -3,8 +3,8 @@
 ghost use Rattle.std.specs.Prelude.{◌≡◌, ℕ, ◌<◌, OnOk, All};
 ghost use Rattle.std.specs.List.{list_any};
 ghost use Rattle.gf_spans.specs.Spans.{is_in_span};
-ghost use Rattle.gf_shape.specs.declared.colour.Rgb.{Rgb};
-ghost use Rattle.gf_shape.specs.White.{white};
+ghost use Rattle.gf_plane.specs.declared.colour.Rgb.{Rgb};
+ghost use Rattle.gf_plane.specs.White.{white};
 ghost use Rattle.gf_scanline.specs.Strips.{IsPainted, over};
 ghost use Rattle.gf_scanline.specs.Windows.{column};
 ghost use Rattle.gf_scanline.specs.Layers.{layer_over, row_colours};

@@ -2,7 +2,7 @@
 
 ghost use Rattle.std.specs.Prelude.{ℕ, IfOk, OnOk};
 ghost use Rattle.std.specs.List.Sorted.{IsNonDecreasingBy, IsPermutation};
-ghost use Rattle.gf_shape.specs.declared.colour.Rgb.{Rgb};
+ghost use Rattle.gf_plane.specs.declared.colour.Rgb.{Rgb};
 ghost use Rattle.gf_scanline.specs.Segments.{AreSegmentsOf, views};
 ghost use Rattle.gf_scanline.specs.Strokes.{AreStrokesOf};
 

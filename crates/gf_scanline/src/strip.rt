@@ -1,7 +1,7 @@
 //! Some columns of a row, painted from the front to the back.
 
 ghost use Rattle.std.specs.Prelude.{◌≡◌, ◌↔◌, ℕ, false, ◌&&◌, not, IsTrue, OnOk, IfOk, []};
-ghost use Rattle.gf_shape.specs.declared.colour.Rgb.{Rgb};
+ghost use Rattle.gf_plane.specs.declared.colour.Rgb.{Rgb};
 ghost use Rattle.gf_scanline.specs.Columns.{is_among};
 ghost use Rattle.gf_scanline.specs.Free.{is_free};
 ghost use Rattle.gf_scanline.specs.Strips.{AreSameOutside, IsPainted, over};

@@ -1,7 +1,7 @@
 //! What a row shows, stroke by stroke.
 
 ghost use Rattle.std.specs.Prelude.{◌≡◌, ℕ, ◌+◌, ◌-◌, ◌≤◌, ◌++◌, OnOk, length};
-ghost use Rattle.gf_shape.specs.declared.colour.Rgb.{Rgb};
+ghost use Rattle.gf_plane.specs.declared.colour.Rgb.{Rgb};
 ghost use Rattle.gf_scanline.specs.Pixels.{pixels};
 ghost use Rattle.gf_scanline.specs.Strokes.{AreStrokesFrom, AreStrokesOf, IsFirstEnding};
 

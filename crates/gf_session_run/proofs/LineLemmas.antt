@@ -10,8 +10,8 @@ use Rattle.gf_json.specs.ScriptLines.{script_denoted}
 use Rattle.gf_worker.specs.declared.script.Script.{Script}
 use Rattle.gf_replay.specs.declared.reading_error.LineCause.{LineCause}
 use Rattle.gf_replay.specs.declared.reading_error.LineCause.TheVariants as cause
-use Rattle.gf_studio.specs.declared.studio_error.StudioError.{StudioError}
-use Rattle.gf_studio.specs.declared.studio_error.StudioError.TheVariants as studio
+use Rattle.gf_run.specs.declared.studio_error.StudioError.{StudioError}
+use Rattle.gf_run.specs.declared.studio_error.StudioError.TheVariants as studio
 use Rattle.gf_session_run.specs.DenotedScripts.{HasScriptFault, IsLineBehind, IsScriptFault}
 use Rattle.gf_session_run.specs.DenotedScripts.{denotes_command}
 use Rattle.gf_session_run.specs.SessionSteps.{HasScripts, IsCommandFault, RefusesScriptLine}

@@ -17,15 +17,15 @@ use Rattle.gf_fig_read.specs.FigGrammar.{Reads}
 use Rattle.gf_fig_write.specs.FigText.{fig_text}
 use Rattle.gf_fig_write.specs.ShownHistory.{Shows}
 use Rattle.gf_fig_write.proofs.CanonicalLemmas.{canonical_shows, shows}
-use Rattle.gf_studio.specs.declared.studio_error.StudioError.{StudioError}
-use Rattle.gf_studio.specs.declared.studio_error.StudioError.TheVariants as studio
+use Rattle.gf_run.specs.declared.studio_error.StudioError.{StudioError}
+use Rattle.gf_run.specs.declared.studio_error.StudioError.TheVariants as studio
 use Rattle.gf_studio.specs.FigRun.{IsDrawn}
 use Rattle.gf_studio.proofs.DrawnLemmas.{both_drawn, one_drawing}
 use Rattle.gf_worker.specs.declared.script.Script.{Script}
 use Rattle.gf_session.specs.declared.session.Done.{Done}
 use Rattle.gf_site.specs.Course.{IsCourse}
 use Rattle.gf_site.specs.Course.{none as course_none, next as course_next}
-use Rattle.gf_replicas.proofs.GrowingLemmas.{valid_nil}
+use Rattle.gf_site.proofs.ValidLemmas.{valid_nil}
 use Rattle.gf_session.specs.Session.{IsSession, site_end, site_ends}
 use Rattle.gf_session_run.specs.DenotedScripts.{DenotesScripts}
 use Rattle.gf_session_run.specs.Reports.{report_text}

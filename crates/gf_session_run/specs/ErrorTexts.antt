@@ -1,7 +1,7 @@
 -- What the run over a session text says where memory is refused (this project's choice).
 use Rattle.std.specs.Prelude.{ℕ, List, Option, Some, None, codes}
 use Rattle.gf_session.specs.SessionErrors.{session_error_text}
-use Rattle.gf_studio.specs.declared.studio_error.StudioError.TheVariants as studio
+use Rattle.gf_run.specs.declared.studio_error.StudioError.TheVariants as studio
 use Rattle.gf_session_run.specs.declared.session_run_error.SessionRunError.{SessionRunError}
 use Rattle.gf_session_run.specs.declared.session_run_error.SessionRunError.TheVariants.{Run}
 use Rattle.gf_session_run.specs.declared.session_run_error.SessionRunError.TheVariants.{Session}

@@ -13,11 +13,11 @@ use Rattle.gf_worker.specs.declared.script.Script.{Script}
 use Rattle.gf_session.specs.declared.session.Done.{Done}
 use Rattle.gf_session.specs.declared.session.SessionError.TheVariants as session
 use Rattle.gf_session.specs.Session.{IsSession}
-use Rattle.gf_studio.specs.declared.studio_error.StudioError.{StudioError}
-use Rattle.gf_studio.specs.declared.studio_error.StudioError.TheVariants as studio
+use Rattle.gf_run.specs.declared.studio_error.StudioError.{StudioError}
+use Rattle.gf_run.specs.declared.studio_error.StudioError.TheVariants as studio
 use Rattle.gf_studio.specs.FigRun.{IsDrawn, RefusesHistory}
-use Rattle.gf_studio.specs.RefusedRuns.{IsOfRun}
-use Rattle.gf_studio.specs.RunAnswers.{WritesText}
+use Rattle.gf_run.specs.RefusedRuns.{IsOfRun}
+use Rattle.gf_run.specs.RunAnswers.{WritesText}
 use Rattle.gf_session_run.specs.DenotedScripts.{DenotesScripts, HasScriptFault}
 use Rattle.gf_session_run.specs.Reports.{report_text}
 use Rattle.gf_session_run.specs.declared.session_run_error.SessionRunError.{SessionRunError}

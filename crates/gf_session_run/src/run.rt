@@ -3,17 +3,17 @@
 ghost use Rattle.std.specs.Prelude.{◌≡◌, ◌≢◌, ◌↔◌, ◌≤◌, Err, Some, IfSome, IfOk, IfErr, OnOk};
 ghost use Rattle.std.specs.Prelude.{IsTrue};
 ghost use Rattle.gf_session.specs.declared.session.SessionError.{SessionError};
-ghost use Rattle.gf_studio.specs.declared.studio_error.StudioError.{StudioError};
-ghost use Rattle.gf_studio.specs.RunAnswers.{LeavesSinkBy, ReadsInputBy};
+ghost use Rattle.gf_run.specs.declared.studio_error.StudioError.{StudioError};
+ghost use Rattle.gf_run.specs.RunAnswers.{LeavesSinkBy, ReadsInputBy};
 ghost use Rattle.gf_session_run.specs.SessionRun.{IsSiteCount, RefusesSession, TellsSession};
 ghost use Rattle.gf_session_run.specs.SessionRun.{WritesSession, of_session};
 
 use crate::SessionRunError;
 use crate::playing::play;
 use gf_gate::Gate;
+use gf_run::{StudioError, input};
 use gf_session::SessionError;
 use gf_streams::{Sink, SinkFault, Source, write_whole};
-use gf_studio::{StudioError, input};
 use std::alloc::Global;
 use std::sync::Wait;
 use std::thread::Threads;

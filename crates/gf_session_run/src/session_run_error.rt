@@ -4,8 +4,8 @@ ghost use Rattle.std.specs.Prelude.{◌≡◌};
 ghost use Rattle.gf_session_run.specs.declared.session_run_error.SessionRunError.TheVariants as run;
 ghost use Rattle.gf_session_run.specs.ErrorTexts.{error_text};
 
+use gf_run::StudioError;
 use gf_session::SessionError;
-use gf_studio::StudioError;
 use std::fmt;
 
 /// Why the run over a session text was refused.

@@ -4,9 +4,9 @@ use Rattle.std.proofs.Common.{arith}
 use Rattle.std.proofs.lemmas.Bool.{and_parts, and_from}
 use Rattle.std.proofs.lemmas.List.Elements.{All-from_recursion}
 use Rattle.std.proofs.lemmas.Int.{ints}
-use Rattle.gf_shape.specs.declared.point.Point.{Point}
+use Rattle.gf_plane.specs.declared.point.Point.{Point}
 use Rattle.gf_shape.specs.Area.{Area, is_area, is_side, far_corner, corners_again}
-use Rattle.gf_shape.specs.Reach.{is_reached, is_within_reach}
+use Rattle.gf_plane.specs.Reach.{is_reached, is_within_reach}
 use Rattle.gf_shape.specs.Ring.{IsRing}
 use Rattle.gf_shape.specs.ShapeMeaning.{rect_holds}
 use Rattle.gf_shape.specs.Laws.Moved.{gap_past}

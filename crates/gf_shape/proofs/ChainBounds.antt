@@ -7,7 +7,7 @@ use Rattle.std.proofs.lemmas.Int.{ints}
 use Rattle.std.proofs.lemmas.List.{take_all}
 use Rattle.std.proofs.lemmas.List.Sums.{fold-append}
 use Rattle.gf_shape.specs.declared.bounds.Bounds.{Bounds}
-use Rattle.gf_shape.specs.declared.point.Point.{Point}
+use Rattle.gf_plane.specs.declared.point.Point.{Point}
 use Rattle.gf_shape.specs.BoundsOf.{bounds_at, bounds_from, with}
 use Rattle.gf_shape.specs.FigureMeaning.{chain_holds}
 use Rattle.gf_shape.specs.Opened.{IsClosed, opened}

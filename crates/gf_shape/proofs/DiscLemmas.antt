@@ -4,7 +4,7 @@ use Rattle.std.specs.Prelude.{int_le, refl}
 use Rattle.std.proofs.Common.{arith}
 use Rattle.std.proofs.lemmas.Int.{ints, by_lt_z}
 use Rattle.gf_shape.specs.declared.bounds.Bounds.{Bounds}
-use Rattle.gf_shape.specs.declared.point.Point.{Point}
+use Rattle.gf_plane.specs.declared.point.Point.{Point}
 use Rattle.gf_shape.specs.Round.{Round}
 use Rattle.gf_shape.specs.ShapeLaws.{IsBounds, IsInBounds}
 use Rattle.gf_shape.specs.ShapeMeaning.{circle_holds, round_holds}

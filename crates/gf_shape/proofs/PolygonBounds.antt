@@ -9,7 +9,7 @@ use Rattle.std.proofs.lemmas.List.Folds.{fold-map}
 use Rattle.std.proofs.lemmas.List.Elements.{All-nil, All-cons, All-head, All-tail}
 use Rattle.std.proofs.lemmas.List.Elements.{Contains-append_right}
 use Rattle.gf_shape.specs.declared.bounds.Bounds.{Bounds}
-use Rattle.gf_shape.specs.declared.point.Point.{Point}
+use Rattle.gf_plane.specs.declared.point.Point.{Point}
 use Rattle.gf_shape.specs.ShapeMeaning.{polygon_holds}
 use Rattle.gf_shape.specs.BoundsOf.{bounds_at, bounds_from, with}
 use Rattle.gf_shape.specs.ShapeLaws.{IsBounds, Touches}

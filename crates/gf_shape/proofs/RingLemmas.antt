@@ -9,12 +9,13 @@ use Rattle.std.proofs.lemmas.List.Elements.{All-append, All-cons, All-get_or, Al
 use Rattle.std.proofs.lemmas.List.Elements.{All-take}
 use Rattle.std.proofs.lemmas.List.Folds.{list_all-map}
 use Rattle.std.proofs.lemmas.Option.{slice_get-map}
-use Rattle.gf_shape.specs.declared.point.Point.{Point}
+use Rattle.gf_plane.specs.declared.point.Point.{Point}
 use Rattle.gf_shape.specs.FigureMeaning.{chain_holds}
-use Rattle.gf_shape.specs.Moving.{plus}
+use Rattle.gf_plane.specs.Moving.{plus}
 use Rattle.gf_shape.specs.Opened.{IsClosed, opened}
-use Rattle.gf_shape.specs.Polygons.{is_polygon, is_polygon_count}
-use Rattle.gf_shape.specs.Reach.{is_within_reach}
+use Rattle.gf_plane.specs.PointCounts.{is_polygon_count}
+use Rattle.gf_shape.specs.Polygons.{is_polygon}
+use Rattle.gf_plane.specs.Reach.{is_within_reach}
 use Rattle.gf_shape.specs.Ring.{IsRing, Ring, ring_of}
 use Rattle.gf_shape.specs.ShapeMeaning.{polygon_holds}
 use Rattle.gf_shape.specs.ShapeMoves.{points_movable, points_moved, ring_moved}

@@ -13,7 +13,7 @@ use Rattle.gf_spans.specs.Crossings.{is_at, is_before, place}
 use Rattle.gf_spans.specs.Spans.{is_in_span}
 use Rattle.gf_spans.proofs.DivisionLemmas.{place_before, place_at, div_exact, one_le_product}
 use Rattle.gf_spans.proofs.DivisionLemmas.{eq_test, ne_test, less_ne, more_ne}
-use Rattle.gf_shape.specs.declared.point.Point.{Point}
+use Rattle.gf_plane.specs.declared.point.Point.{Point}
 use Rattle.gf_shape.specs.Edges.{side, is_between, is_on_line, is_on_edge, crosses_left}
 use Rattle.gf_shape.specs.RowParts.{passes, crossing, contact, span_between}
 use Rattle.gf_shape.specs.Laws.Sides.{on_edge_from_line}

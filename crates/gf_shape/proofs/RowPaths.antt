@@ -15,7 +15,7 @@ use Rattle.gf_spans.specs.Crossings.{is_at, is_before}
 use Rattle.gf_spans.specs.Joining.{IsJoined}
 use Rattle.gf_spans.specs.Spans.{is_empty, is_in_span}
 use Rattle.gf_spans.proofs.PairLemmas.{is_one, count_before, any_append}
-use Rattle.gf_shape.specs.declared.point.Point.{Point}
+use Rattle.gf_plane.specs.declared.point.Point.{Point}
 use Rattle.gf_shape.specs.Edges.{is_on_edge, crosses_left}
 use Rattle.gf_shape.specs.FigureMeaning.{chain_holds}
 use Rattle.gf_shape.specs.Rows.{IsRow}

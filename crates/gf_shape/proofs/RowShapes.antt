@@ -8,7 +8,7 @@ use Rattle.std.proofs.Math.Nat.{mul-le-mul}
 use Rattle.std.proofs.lemmas.Bool.Decides.{nat_tests}
 use Rattle.std.proofs.lemmas.Int.{ints, by_lt_z}
 use Rattle.gf_spans.specs.declared.span.Span.{Span}
-use Rattle.gf_shape.specs.declared.point.Point.{Point}
+use Rattle.gf_plane.specs.declared.point.Point.{Point}
 use Rattle.gf_shape.specs.Area.{Area}
 use Rattle.gf_shape.specs.FigureMeaning.{chain_holds}
 use Rattle.gf_shape.specs.Opened.{IsClosed, opened}

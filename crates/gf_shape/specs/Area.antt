@@ -2,7 +2,7 @@
 -- corners is that of Xfig's FIG Format 3.2).
 use Rattle.std.specs.Prelude.{ℕ, ℤ, pos, negsuc, ◌+ℤ◌, Bool, ◌&&◌, nat_le, int_le}
 use Rattle.std.specs.Prelude.{List, [], ◌∷◌}
-use Rattle.gf_shape.specs.declared.point.Point.{Point}
+use Rattle.gf_plane.specs.declared.point.Point.{Point}
 
 -- the box from its least corner to as far as its width and height reach
 pub record Area : Type 0 where

@@ -2,7 +2,7 @@
 use Rattle.std.specs.Prelude.{List, fold}
 use Rattle.std.specs.Int.{int_min, int_max}
 use Rattle.gf_shape.specs.declared.bounds.Bounds.{Bounds}
-use Rattle.gf_shape.specs.declared.point.Point.{Point}
+use Rattle.gf_plane.specs.declared.point.Point.{Point}
 
 -- the lesser of both coordinates of two points
 abbrev pub least : Point → Point → Point

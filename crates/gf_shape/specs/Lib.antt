@@ -1,6 +1,4 @@
 pub use Rattle.gf_spans.specs.Spans
-pub mod Moving
-pub mod Reach
 pub mod Area
 pub mod Polygons
 pub mod Ring
@@ -17,5 +15,3 @@ pub mod RowParts
 pub mod BoundsOf
 pub mod Opened
 pub mod Laws
-pub mod ColourBytes
-pub mod White

@@ -1,8 +1,8 @@
 -- An oval as its callers see it (Xfig, FIG Format 3.2: ellipse objects with level axes; this
 -- project's limits).
 use Rattle.std.specs.Prelude.{ℕ, Bool, ◌&&◌, nat_le}
-use Rattle.gf_shape.specs.declared.point.Point.{Point}
-use Rattle.gf_shape.specs.Reach.{is_within_reach}
+use Rattle.gf_plane.specs.declared.point.Point.{Point}
+use Rattle.gf_plane.specs.Reach.{is_within_reach}
 
 -- the points round a centre: one radius reaches to both sides, the other one upwards and downwards
 pub record Oblong : Type 0 where

@@ -1,6 +1,6 @@
 -- A polygon kept as the chain round its points. No public clause cites this module.
 use Rattle.std.specs.Prelude.{◌≡◌, ◌-◌, IsTrue, List, length, take}
-use Rattle.gf_shape.specs.declared.point.Point.{Point}
+use Rattle.gf_plane.specs.declared.point.Point.{Point}
 use Rattle.gf_shape.specs.Polygons.{is_polygon}
 use Rattle.gf_shape.specs.Ring.{Ring, ring_of}
 

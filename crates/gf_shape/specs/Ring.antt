@@ -2,8 +2,8 @@
 -- limits).
 use Rattle.std.specs.Prelude.{◌≡◌, ◌≤◌, ◌-◌, Bool, true, false, IsTrue, List}
 use Rattle.std.specs.Prelude.{◌++◌, take, length, All, slice_get}
-use Rattle.gf_shape.specs.declared.point.Point.{Point}
-use Rattle.gf_shape.specs.Reach.{is_within_reach}
+use Rattle.gf_plane.specs.declared.point.Point.{Point}
+use Rattle.gf_plane.specs.Reach.{is_within_reach}
 
 -- the points of a chain, and whether FIG calls it a box
 pub record Ring : Type 0 where

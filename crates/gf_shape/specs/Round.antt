@@ -1,7 +1,7 @@
 -- A disc as its callers see it (Xfig, FIG Format 3.2: ellipse objects; this project's limits).
 use Rattle.std.specs.Prelude.{ℕ, Bool, ◌&&◌, nat_le}
-use Rattle.gf_shape.specs.declared.point.Point.{Point}
-use Rattle.gf_shape.specs.Reach.{is_within_reach}
+use Rattle.gf_plane.specs.declared.point.Point.{Point}
+use Rattle.gf_plane.specs.Reach.{is_within_reach}
 
 -- the points within a radius of a centre
 pub record Round : Type 0 where

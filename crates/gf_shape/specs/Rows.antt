@@ -3,7 +3,7 @@ use Rattle.std.specs.Prelude.{◌≡◌, Bool, ℤ, List}
 use Rattle.std.specs.List.{list_any}
 use Rattle.gf_spans.specs.declared.span.Span.{Span}
 use Rattle.gf_spans.specs.Spans.{is_in_span, AreApart}
-use Rattle.gf_shape.specs.declared.point.Point.{Point}
+use Rattle.gf_plane.specs.declared.point.Point.{Point}
 
 -- row law: the rising spans hold x exactly if (x, y) is held; they neither overlap nor touch
 pub record IsRow (holds : Point → Bool) (y : ℤ) (spans : List Span) : Type 0 where

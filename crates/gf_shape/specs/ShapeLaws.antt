@@ -1,11 +1,11 @@
 -- The laws that every shape keeps, over the set of points that it holds (this project's choice).
 use Rattle.std.specs.Prelude.{◌≡◌, Bool, IsTrue, ℤ, ◌≤ℤ◌}
 use Rattle.gf_shape.specs.declared.bounds.Bounds.{Bounds}
-use Rattle.gf_shape.specs.declared.point.Point.{Point}
+use Rattle.gf_plane.specs.declared.point.Point.{Point}
 use Rattle.gf_shape.specs.declared.outline.Outline.{Outline}
 use Rattle.gf_shape.specs.declared.outline.Outline.TheVariants.{Chain, Disc, Oval}
 use Rattle.gf_shape.specs.FigureMeaning.{outline_holds}
-use Rattle.gf_shape.specs.Moving.{plus}
+use Rattle.gf_plane.specs.Moving.{plus}
 use Rattle.gf_shape.specs.Ring.{IsRing}
 use Rattle.gf_shape.specs.Round.{is_round}
 use Rattle.gf_shape.specs.Oblong.{is_oblong}

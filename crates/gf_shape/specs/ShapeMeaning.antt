@@ -3,12 +3,12 @@
 use Rattle.std.specs.Prelude.{ℕ, ◌*◌, ◌%◌, Bool, ◌&&◌, ◌||◌, List, ◌++◌, zip}
 use Rattle.std.specs.Prelude.{drop, take, count_by, pos, ◌+ℤ◌, ◌*ℤ◌, int_le, nat_eq}
 use Rattle.std.specs.List.{list_any}
-use Rattle.gf_shape.specs.declared.point.Point.{Point}
+use Rattle.gf_plane.specs.declared.point.Point.{Point}
 use Rattle.gf_shape.specs.declared.any_shape.AnyShape.{AnyShape}
 use Rattle.gf_shape.specs.declared.any_shape.AnyShape.TheVariants as any
 use Rattle.gf_shape.specs.Area.{Area}
 use Rattle.gf_shape.specs.Edges.{Edge, is_on_edge, crosses_right}
-use Rattle.gf_shape.specs.Moving.{minus}
+use Rattle.gf_plane.specs.Moving.{minus}
 use Rattle.gf_shape.specs.Round.{Round}
 use Rattle.gf_shape.specs.Oblong.{Oblong}
 

@@ -5,10 +5,10 @@ use Rattle.gf_shape.specs.declared.any_shape.AnyShape.{AnyShape}
 use Rattle.gf_shape.specs.declared.any_shape.AnyShape.TheVariants as any
 use Rattle.gf_shape.specs.declared.outline.Outline.{Outline}
 use Rattle.gf_shape.specs.declared.outline.Outline.TheVariants.{Chain, Disc, Oval}
-use Rattle.gf_shape.specs.declared.point.Point.{Point}
+use Rattle.gf_plane.specs.declared.point.Point.{Point}
 use Rattle.gf_shape.specs.Area.{Area, far_corner}
-use Rattle.gf_shape.specs.Moving.{plus}
-use Rattle.gf_shape.specs.Reach.{is_within_reach}
+use Rattle.gf_plane.specs.Moving.{plus}
+use Rattle.gf_plane.specs.Reach.{is_within_reach}
 use Rattle.gf_shape.specs.Ring.{Ring}
 use Rattle.gf_shape.specs.Round.{Round}
 use Rattle.gf_shape.specs.Oblong.{Oblong}

@@ -1,7 +1,7 @@
 //! What lies round a centre: how far a coordinate is from it, and the corners of what surrounds it.
 
 ghost use Rattle.std.specs.Prelude.{◌≡◌, ◌+ℤ◌, ◌-ℤ◌, ◌≤◌, ◌^◌, pos, unsigned_abs, IsTrue};
-ghost use Rattle.gf_shape.specs.Reach.{is_reached, is_within_reach};
+ghost use Rattle.gf_plane.specs.Reach.{is_reached, is_within_reach};
 
 use crate::Point;
 use crate::products::gap;
@@ -41,7 +41,7 @@ pub(crate) fn high_corner(p: Point, across: u32, along: u32) -> Point
 }
 
 /// The coordinate `n` before `at`.
-#[tactic(auto, using(std::proofs::lemmas::Int::ints), unfolding(crate::specs::Reach::is_reached))]
+#[tactic(auto, using(std::proofs::lemmas::Int::ints), unfolding(gf_plane::specs::Reach::is_reached))]
 pub(crate) fn less(at: i32, n: u32) -> i32
     requires at { IsTrue (is_reached at) }
     requires n { n ≤ 10000000 }
@@ -51,7 +51,7 @@ pub(crate) fn less(at: i32, n: u32) -> i32
 }
 
 /// The coordinate `n` past `at`.
-#[tactic(auto, using(std::proofs::lemmas::Int::ints), unfolding(crate::specs::Reach::is_reached))]
+#[tactic(auto, using(std::proofs::lemmas::Int::ints), unfolding(gf_plane::specs::Reach::is_reached))]
 pub(crate) fn more(at: i32, n: u32) -> i32
     requires at { IsTrue (is_reached at) }
     requires n { n ≤ 10000000 }

@@ -2,7 +2,7 @@
 
 ghost use Rattle.std.specs.Prelude.{◌≡◌, ◌+ℤ◌, ◌-ℤ◌, ◌*ℤ◌, ◌*◌, ◌≤◌, ◌^◌, pos, int_le};
 ghost use Rattle.std.specs.Prelude.{unsigned_abs, IsTrue, OnOk, ◌+◌, ◌<◌};
-ghost use Rattle.gf_shape.specs.Reach.{is_reached, is_within_reach};
+ghost use Rattle.gf_plane.specs.Reach.{is_reached, is_within_reach};
 ghost use Rattle.gf_shape.specs.Round.{is_round};
 ghost use Rattle.gf_shape.specs.Rows.{IsRow};
 ghost use Rattle.gf_shape.specs.ShapeLaws.{IsBounds};

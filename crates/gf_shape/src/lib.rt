@@ -1,6 +1,7 @@
 //! Shapes over grid points: what each holds, its bounds, its moves and its outline.
 //!
-//! - [`Point`], [`Rgb`], [`Bounds`], [`Span`]: plain values; [`REACH`]: how far points lie.
+//! - [`Point`], [`Rgb`], [`Bounds`], [`Span`]: plain values; [`REACH`]: how far points lie. Points
+//!   and colours are those of `gf_plane`.
 //! - [`Row`]: the spans of a shape at one height, with memory for the next ones; [`meet`]: where an
 //!   edge meets it.
 //! - [`Shape`]: what every shape can do, and the laws that it keeps.
@@ -15,14 +16,12 @@ mod around;
 mod bounds;
 mod chain;
 mod circle;
-mod colour;
 mod disc;
 mod edges;
 mod ellipse;
 mod outline;
 mod oval;
 mod passing;
-mod point;
 mod points;
 mod polygon;
 mod products;
@@ -35,15 +34,14 @@ pub use any_shape::AnyShape;
 pub use bounds::Bounds;
 pub use chain::Chain;
 pub use circle::Circle;
-pub use colour::Rgb;
 pub use disc::Disc;
 pub use ellipse::Ellipse;
 pub use gf_base::OutOfMemory;
+pub use gf_plane::{Point, REACH, Rgb};
 pub use gf_spans::Span;
 pub use outline::Outline;
 pub use oval::Oval;
 pub use passing::meet;
-pub use point::{Point, REACH};
 pub use polygon::Polygon;
 pub use rect::Rect;
 pub use refusals::{PolygonError, Range};

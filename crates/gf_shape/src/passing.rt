@@ -4,7 +4,7 @@ ghost use Rattle.std.specs.Prelude.{◌≡◌, ◌++◌, ◌≤◌, ◌-ℤ◌, 
 ghost use Rattle.std.specs.Prelude.{OnOk, All, true, Option};
 ghost use Rattle.std.specs.Ordering.{int_eq};
 ghost use Rattle.gf_spans.specs.Crossings.{place};
-ghost use Rattle.gf_shape.specs.Reach.{is_reached, is_within_reach};
+ghost use Rattle.gf_plane.specs.Reach.{is_reached, is_within_reach};
 ghost use Rattle.gf_shape.specs.RowParts.{contact, contacts_along, contacts_of, crossing};
 ghost use Rattle.gf_shape.specs.RowParts.{crossings_along, crossings_of, passes, span_between};
 
@@ -107,7 +107,7 @@ fn crossing(y: i32, a: Point, b: Point) -> Crossing
 }
 
 /// The place as far from one coordinate to another as `rise` is of `height`.
-#[tactic(auto, using(std::proofs::lemmas::Int::ints), unfolding(crate::specs::Reach::is_reached))]
+#[tactic(auto, using(std::proofs::lemmas::Int::ints), unfolding(gf_plane::specs::Reach::is_reached))]
 fn along(from: i32, to: i32, rise: i64, height: i64) -> Crossing
     requires from { IsTrue (is_reached from) }
     requires to { IsTrue (is_reached to) }
@@ -119,7 +119,7 @@ fn along(from: i32, to: i32, rise: i64, height: i64) -> Crossing
 }
 
 /// How far `to` is past `from`, both within reach.
-#[tactic(auto, using(std::proofs::lemmas::Int::ints), unfolding(crate::specs::Reach::is_reached))]
+#[tactic(auto, using(std::proofs::lemmas::Int::ints), unfolding(gf_plane::specs::Reach::is_reached))]
 fn run(from: i32, to: i32) -> i64
     requires from { IsTrue (is_reached from) }
     requires to { IsTrue (is_reached to) }

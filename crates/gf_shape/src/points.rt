@@ -3,7 +3,7 @@
 ghost use Rattle.std.specs.Prelude.{◌≡◌, IsTrue, IfOk};
 ghost use Rattle.std.specs.List.{list_all};
 ghost use Rattle.gf_shape.specs.BoundsOf.{bounds_from};
-ghost use Rattle.gf_shape.specs.Reach.{is_within_reach};
+ghost use Rattle.gf_plane.specs.Reach.{is_within_reach};
 ghost use Rattle.gf_shape.specs.ShapeMoves.{points_movable, points_moved};
 
 use crate::{Bounds, OutOfMemory, Point};

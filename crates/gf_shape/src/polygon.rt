@@ -4,8 +4,9 @@ ghost use Rattle.std.specs.Prelude.{◌≡◌, ◌↔◌, false, true, IfOk, IsT
 ghost use Rattle.std.specs.List.{list_all};
 ghost use Rattle.gf_shape.specs.Opened.{IsClosed};
 ghost use Rattle.gf_shape.specs.Outlines.{polygon_outline};
-ghost use Rattle.gf_shape.specs.Polygons.{is_polygon, is_polygon_count};
-ghost use Rattle.gf_shape.specs.Reach.{is_within_reach};
+ghost use Rattle.gf_plane.specs.PointCounts.{is_polygon_count};
+ghost use Rattle.gf_shape.specs.Polygons.{is_polygon};
+ghost use Rattle.gf_plane.specs.Reach.{is_within_reach};
 ghost use Rattle.gf_shape.specs.Ring.{ring_of};
 ghost use Rattle.gf_shape.specs.ShapeMeaning.{polygon_holds};
 ghost use Rattle.gf_shape.specs.ShapeMoves.{points_movable, points_moved};
@@ -25,7 +26,7 @@ pub struct Polygon {
 
 impl Model for Polygon {
     ghost use Rattle.std.specs.Prelude.{◌≡◌, List, IsTrue};
-    ghost use Rattle.gf_shape.specs.declared.point.Point.{Point};
+    ghost use Rattle.gf_plane.specs.declared.point.Point.{Point};
     ghost use Rattle.gf_shape.specs.Opened.{opened};
 
     ghost Value = { List Point };

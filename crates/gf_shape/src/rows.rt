@@ -2,7 +2,7 @@
 
 ghost use Rattle.std.specs.Prelude.{◌≡◌, ◌∷◌, [], ◌+◌, ◌%◌, IsTrue, OnOk, All, length, List};
 ghost use Rattle.gf_shape.specs.FigureMeaning.{chain_holds};
-ghost use Rattle.gf_shape.specs.Reach.{is_within_reach};
+ghost use Rattle.gf_plane.specs.Reach.{is_within_reach};
 ghost use Rattle.gf_shape.specs.RowParts.{end_of};
 ghost use Rattle.gf_shape.specs.Rows.{IsRow};
 

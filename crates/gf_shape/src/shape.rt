@@ -2,7 +2,7 @@
 
 ghost use Rattle.std.specs.Prelude.{◌≡◌, Bool, IsTrue, IfOk, OnOk};
 ghost use Rattle.gf_shape.specs.declared.outline.Outline.{Outline};
-ghost use Rattle.gf_shape.specs.declared.point.Point.{Point};
+ghost use Rattle.gf_plane.specs.declared.point.Point.{Point};
 ghost use Rattle.gf_shape.specs.Rows.{IsRow};
 ghost use Rattle.gf_shape.specs.ShapeLaws.{IsBounds, IsLawful, IsMovedBy, IsOutlineOf};
 

@@ -1,26 +1,14 @@
 -- What a step leaves.
-use Rattle.std.proofs.Common.{◌≡◌, List, [], ◌∷◌, ◌++◌, refl, sym, ap, subst, ◌∙◌}
-use Rattle.std.specs.Prelude.{◌↔◌, Result, Err, Ok, OnErr, OnOk}
+use Rattle.std.proofs.Common.{◌≡◌, List}
+use Rattle.std.specs.Prelude.{◌↔◌, Result, Err}
 use Rattle.gf_ops.specs.declared.op.Op.{Op}
 use Rattle.gf_ops.specs.declared.faults.OpFault.{OpFault}
 use Rattle.gf_ops.specs.declared.faults.OpFault.TheVariants.{BadClock, NoObject, WrongKind, BadAim}
 use Rattle.gf_ops.specs.declared.change.Change.{Change}
 use Rattle.gf_ops.specs.declared.change.Change.TheVariants.{Create, Set}
 use Rattle.gf_ops.specs.KnownObject.{IsFounded, IsSuited}
-use Rattle.gf_ops.specs.Accepted.{IsAccepted, IsRefused, AreAccepted, next}
+use Rattle.gf_ops.specs.Accepted.{IsAccepted, IsRefused}
 use Rattle.gf_site.specs.SiteState.{SiteState, replica_of}
-
--- an accepted operation goes on
-pub run_more : (h new : List Op) (a b : Op) → AreAccepted h → IsAccepted h a → b ≡ a
-    → new ≡ h ++ b ∷ [] → AreAccepted new
-run_more h new a b run t e n = subst AreAccepted (sym (n ∙ ap (λ b. h ++ b ∷ []) e)) (next run t)
-
--- and where it wanted memory, nothing did
-pub run_after : {A E H : Type 0} (ops : H → List Op) (r : Result A E) (old new : H) (a : Op)
-    → AreAccepted (ops old) → IsAccepted (ops old) a → OnOk r (ops new ≡ ops old ++ a ∷ [])
-    → OnErr r (new ≡ old) → AreAccepted (ops new)
-run_after ops (Ok x) old new a run t ok err = run_more (ops old) (ops new) a a run t refl ok
-run_after ops (Err e) old new a run t ok err = subst (λ x. AreAccepted (ops x)) (sym err) run
 
 -- the fault that a check told
 pub refused_by : {A : Type 0} (h : List Op) (a : Op) (r : Result A OpFault) (f : OpFault)

@@ -41,14 +41,11 @@ pub struct Replica<H: GrowingHistory = VersionedHistory> {
 }
 
 impl<H: GrowingHistory> Model for Replica<H> {
-    ghost use Rattle.gf_ops.specs.Accepted.{AreAccepted};
     ghost use Rattle.gf_site.specs.ReplicaState.{ReplicaState};
 
     ghost Value = { ReplicaState };
 
     ghost view = { λ r. record { ops = H.ops r.history; held = r.buffer } };
-
-    ghost invariant = { λ r. AreAccepted (H.ops r.history) };
 }
 
 impl Replica<VersionedHistory> {

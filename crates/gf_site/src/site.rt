@@ -192,7 +192,6 @@ impl<H: GrowingHistory> Site<H> {
 /// it. It may still be refused for want of memory.
 fn made_op(history: &History, site: u8, change: Change) -> Result<Op, AuthorFault>
     requires site { IsSite site }
-    requires accepted { AreAccepted history.now.ops }
     ensures is { IfOk result (λ op. op ≡ authored site history.now.ops change) }
     ensures in_range { IfOk result IsInRange }
     ensures accepted { IfOk result (IsAccepted history.now.ops) }
@@ -219,7 +218,6 @@ fn made_op(history: &History, site: u8, change: Change) -> Result<Op, AuthorFaul
 /// history accepts it, where the object is known and suits the value, and the aim has no fault.
 fn next_op(history: &History, site: u8, change: Change) -> Op
     requires site { IsSite site }
-    requires accepted { AreAccepted history.now.ops }
     requires room { count_of history.now.ops site < 10000 }
     requires in_range { IsTrue (is_change change) }
     ensures is { result ≡ authored site history.now.ops change }

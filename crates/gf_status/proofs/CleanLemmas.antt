@@ -14,8 +14,8 @@ use Rattle.gf_ops.specs.declared.op.OpId.{OpId}
 use Rattle.gf_ops.specs.ValidHistory.{IsValid}
 use Rattle.gf_base.proofs.ListLemmas.{Contains-cons_cases, Contains-cons_head, Contains-cons_tail}
 use Rattle.gf_base.proofs.ListLemmas.{Contains-map_from, not_Contains-nil}
-use Rattle.gf_maximal.proofs.PairLemmas.{AllPairs-map}
-use Rattle.gf_components.proofs.CountLemmas.{no_longer}
+use Rattle.gf_base.proofs.PairLemmas.{AllPairs-map}
+use Rattle.gf_base.proofs.CountLemmas.{no_longer}
 use Rattle.gf_groups.specs.declared.group.Group.{Group}
 use Rattle.gf_groups.specs.Versions.{IsMade}
 use Rattle.gf_versions.specs.Above.{IsAbove}

@@ -2,7 +2,7 @@
 use Rattle.std.specs.Prelude.{◌≡◌, ℕ, List, Option}
 use Rattle.gf_ops.specs.declared.op.Op.{Op}
 use Rattle.gf_replay.specs.Waiting.{DenotesWaiting}
-use Rattle.gf_studio.specs.RunAnswers.{WritesText}
+use Rattle.gf_run.specs.RunAnswers.{WritesText}
 use Rattle.gf_status.specs.declared.objects.ObjectStatus.{ObjectStatus}
 use Rattle.gf_status.specs.declared.state.State.{State}
 use Rattle.gf_status.specs.ObjectStatuses.{AreStatuses}

@@ -2,9 +2,9 @@
 
 ghost use Rattle.std.specs.Prelude.{◌≡◌, ◌≢◌, ◌≤◌, IfSome, IfOk, IfErr, map};
 ghost use Rattle.std.specs.List.{list_all};
-ghost use Rattle.gf_studio.specs.RefusedParts.{IsBetween};
-ghost use Rattle.gf_studio.specs.RefusedRuns.{RefusesReading};
-ghost use Rattle.gf_studio.specs.RunAnswers.{LeavesSink, ReadsInput};
+ghost use Rattle.gf_run.specs.RefusedRuns.{IsBetween};
+ghost use Rattle.gf_run.specs.RefusedRuns.{RefusesReading};
+ghost use Rattle.gf_run.specs.RunAnswers.{LeavesSink, ReadsInput};
 ghost use Rattle.gf_status.specs.StatusRun.{DenotesStatus, IsStatusOf, TellsStatus, WritesStatus};
 ghost use Rattle.gf_status.specs.StatusLines.{are_clean, is_at_most_one, is_clean, state_of};
 
@@ -14,9 +14,9 @@ use crate::{ObjectStatus, State, object_statuses};
 use gf_base::OutOfMemory;
 use gf_ops::{Op, OpId};
 use gf_replay::read_replica;
+use gf_run::{StudioError, input};
 use gf_site::Replica;
 use gf_streams::{Sink, SinkFault, Source, write_whole};
-use gf_studio::{StudioError, input};
 use gf_versions::MOST_VERSIONS;
 use std::alloc::Global;
 use std::thread::Threads;

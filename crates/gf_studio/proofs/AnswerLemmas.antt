@@ -2,10 +2,10 @@
 use Rattle.std.specs.Prelude.{IfErr, IfOk, IfSome, None, Option, Some}
 use Rattle.std.proofs.Common.{◌≡◌, ◌≢◌, List, ℕ, Result, Ok, Err, subst}
 use Rattle.gf_streams.specs.declared.source.Source.{Ghosts as Source}
-use Rattle.gf_studio.specs.declared.studio_error.StudioError.{StudioError}
-use Rattle.gf_studio.specs.declared.studio_error.StudioError.TheVariants as studio
-use Rattle.gf_studio.specs.RefusedParts.{IsBetween}
-use Rattle.gf_studio.specs.RunAnswers.{ReadsAll, ReadsInput, ReadsUntil}
+use Rattle.gf_run.specs.declared.studio_error.StudioError.{StudioError}
+use Rattle.gf_run.specs.declared.studio_error.StudioError.TheVariants as studio
+use Rattle.gf_run.specs.RefusedRuns.{IsBetween}
+use Rattle.gf_run.specs.RunAnswers.{ReadsAll, ReadsInput, ReadsUntil}
 
 -- what holds of the bytes that were read holds of those that were left before
 pub left_ok : {T : Type 0} (left : Option (List ℕ)) (bytes : List ℕ) (P : List ℕ → T → Type 0)

@@ -17,9 +17,10 @@ use Rattle.gf_drawing.proofs.CanonicalColour.{canonical_colour, canonical_colour
 use Rattle.gf_replay.specs.Denoting.{Denotes}
 use Rattle.gf_base.specs.declared.memory.OutOfMemory.{OutOfMemory}
 use Rattle.gf_visible.specs.ShownVersions.{HasMoreVisible}
-use Rattle.gf_studio.specs.Refusals.{of_compile, of_ranked}
+use Rattle.gf_run.specs.Refusals.{of_compile}
+use Rattle.gf_studio.specs.Refusals.{of_ranked}
 use Rattle.gf_studio.specs.FigRun.{IsDrawn, RefusesHistory}
-use Rattle.gf_studio.specs.RefusedParts.{IsBetween}
+use Rattle.gf_run.specs.RefusedRuns.{IsBetween}
 use Rattle.gf_studio.specs.RefusedRuns.{RefusesLines}
 
 pub drawn : (h : List Op) (d : DrawingState AnyShape) → IsCanonical h d → IsDrawn h d

@@ -3,8 +3,8 @@ use Rattle.std.specs.Prelude.{IfSome, None, Option, Some}
 use Rattle.std.proofs.Common.{◌≡◌, List, refl, ℕ}
 use Rattle.std.specs.Io.KnownBytes.{Appends}
 use Rattle.gf_shape.specs.declared.any_shape.AnyShape.{AnyShape}
-use Rattle.gf_shape.specs.declared.colour.Rgb.{Rgb}
-use Rattle.gf_shape.specs.declared.point.Point.{Point}
+use Rattle.gf_plane.specs.declared.colour.Rgb.{Rgb}
+use Rattle.gf_plane.specs.declared.point.Point.{Point}
 use Rattle.gf_shape.specs.FigureMeaning.{outline_holds}
 use Rattle.gf_shape.specs.ShapeMeaning.{any_holds}
 use Rattle.gf_figures.specs.DrawingColour.{drawing_colour}
@@ -24,7 +24,7 @@ use Rattle.gf_studio.specs.FigRun.{Draws}
 use Rattle.gf_studio.specs.PaintRun.{IsMeant, WritesPicture}
 use Rattle.gf_studio.specs.PictureParts.{IsWindowOver}
 use Rattle.gf_studio.specs.PictureRun.{IsShownBy, IsWindowOf, Paints, PaintsBands}
-use Rattle.gf_studio.specs.RunAnswers.{WritesPrefix}
+use Rattle.gf_run.specs.RunAnswers.{WritesPrefix}
 
 -- a window over a drawing is one of what has this drawing
 pub window_of_lines : (bytes : List ℕ) (d : DrawingState AnyShape) (e : Extent) (w : View)

@@ -2,8 +2,8 @@
 use Rattle.std.specs.Prelude.{IfOk, IfSome, None, Option, Some}
 use Rattle.std.proofs.Common.{◌≡◌, ℕ, List, Result, Ok, Err, sym, ap, ◌∙◌}
 use Rattle.gf_shape.specs.declared.any_shape.AnyShape.{AnyShape}
-use Rattle.gf_shape.specs.declared.colour.Rgb.{Rgb}
-use Rattle.gf_shape.specs.declared.point.Point.{Point}
+use Rattle.gf_plane.specs.declared.colour.Rgb.{Rgb}
+use Rattle.gf_plane.specs.declared.point.Point.{Point}
 use Rattle.gf_shape.specs.FigureMeaning.{outline_holds}
 use Rattle.gf_shape.specs.Laws.Shapes.{any_outlines}
 use Rattle.gf_shape.specs.Outlines.{any_outline}
@@ -20,7 +20,7 @@ use Rattle.gf_fig_read.proofs.GrammarLemmas.{not_both, one_drawing}
 use Rattle.gf_scanline.specs.Picture.{picture}
 use Rattle.gf_scanline.specs.Windows.{View}
 use Rattle.gf_studio.specs.declared.drawings.DrawnLines.{DrawnLines}
-use Rattle.gf_studio.specs.declared.studio_error.StudioError.{StudioError}
+use Rattle.gf_run.specs.declared.studio_error.StudioError.{StudioError}
 use Rattle.gf_studio.specs.FigRun.{Draws, IsFigOf}
 use Rattle.gf_studio.specs.PaintRun.{IsDenoted, IsMeant, PictureOf, RepaintOf}
 

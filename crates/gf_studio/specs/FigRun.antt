@@ -20,7 +20,7 @@ use Rattle.gf_fig_named.specs.ThinPolygons.{AreThinOf}
 use Rattle.gf_replay.specs.Denoting.{Denotes}
 use Rattle.gf_replay.specs.Waiting.{DenotesWaiting}
 use Rattle.gf_visible.specs.ShownVersions.{HasMoreVisible}
-use Rattle.gf_studio.specs.RunAnswers.{WritesText}
+use Rattle.gf_run.specs.RunAnswers.{WritesText}
 
 -- the bytes denote a history of which this holds
 pub record DenotesSuch (bytes : List ℕ) (IsSuch : List Op → Type 0) : Type 0 where

@@ -1,7 +1,7 @@
 -- What the inspecting run writes: the versions of an object, or the version on top at a point (this
 -- project's choice).
 use Rattle.std.specs.Prelude.{◌≡◌, ℕ, List, Option, flat_map}
-use Rattle.gf_shape.specs.declared.point.Point.{Point}
+use Rattle.gf_plane.specs.declared.point.Point.{Point}
 use Rattle.gf_ops.specs.declared.op.Op.{Op}
 use Rattle.gf_ops.specs.declared.op.ObjectId.{ObjectId}
 use Rattle.gf_groups.specs.Versions.{IsMade}
@@ -13,7 +13,7 @@ use Rattle.gf_inspect.specs.VersionLines.{top_line, version_line}
 use Rattle.gf_studio.specs.declared.inspecting.Query.{Query}
 use Rattle.gf_studio.specs.declared.inspecting.Query.TheVariants as asked
 use Rattle.gf_studio.specs.FigRun.{DenotesSuch}
-use Rattle.gf_studio.specs.RunAnswers.{WritesText}
+use Rattle.gf_run.specs.RunAnswers.{WritesText}
 
 -- h has no operation that made the object o
 abbrev pub IsMissing : List Op → ObjectId → Type 0

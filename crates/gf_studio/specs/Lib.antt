@@ -1,5 +1,4 @@
 pub mod Refusals
-pub mod RunAnswers
 pub mod FigRun
 pub mod PaintRun
 pub mod PictureRun

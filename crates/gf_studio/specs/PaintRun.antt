@@ -2,8 +2,8 @@
 -- over Netpbm's ppm(5)).
 use Rattle.std.specs.Prelude.{◌≡◌, ℕ, List, Option, Result}
 use Rattle.gf_shape.specs.declared.any_shape.AnyShape.{AnyShape}
-use Rattle.gf_shape.specs.declared.colour.Rgb.{Rgb}
-use Rattle.gf_shape.specs.declared.point.Point.{Point}
+use Rattle.gf_plane.specs.declared.colour.Rgb.{Rgb}
+use Rattle.gf_plane.specs.declared.point.Point.{Point}
 use Rattle.gf_shape.specs.FigureMeaning.{outline_holds}
 use Rattle.gf_versions.specs.HistoryColour.{HistoryColour}
 use Rattle.gf_figures.specs.DrawingColour.{drawing_colour}
@@ -14,9 +14,9 @@ use Rattle.gf_fig_read.specs.Objects.{Drawn}
 use Rattle.gf_scanline.specs.Windows.{View}
 use Rattle.gf_scanline.specs.Picture.{header, picture}
 use Rattle.gf_raster.specs.Bands.{HasBands}
-use Rattle.gf_studio.specs.declared.studio_error.StudioError.{StudioError}
+use Rattle.gf_run.specs.declared.studio_error.StudioError.{StudioError}
 use Rattle.gf_studio.specs.FigRun.{Draws}
-use Rattle.gf_studio.specs.RunAnswers.{LeavesPicture, WritesText}
+use Rattle.gf_run.specs.RunAnswers.{LeavesPicture, WritesText}
 
 -- the bytes denote a history with a drawing, and colour is at every point what this history means
 pub record IsMeant (bytes : List ℕ) (colour : Point → Rgb) : Type 0 where

@@ -1,6 +1,6 @@
 -- Which window of a drawing an extent asks for. No public clause cites this module.
 use Rattle.std.specs.Prelude.{◌≡◌, Bool}
-use Rattle.gf_shape.specs.declared.point.Point.{Point}
+use Rattle.gf_plane.specs.declared.point.Point.{Point}
 use Rattle.gf_scanline.specs.Windows.{View}
 use Rattle.gf_fit.specs.FittedWindow.{IsFitted}
 use Rattle.gf_studio.specs.declared.painting.Extent.{Extent}

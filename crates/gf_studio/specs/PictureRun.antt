@@ -2,8 +2,8 @@
 -- choice).
 use Rattle.std.specs.Prelude.{◌≡◌, ℕ, List, Option}
 use Rattle.gf_shape.specs.declared.any_shape.AnyShape.{AnyShape}
-use Rattle.gf_shape.specs.declared.colour.Rgb.{Rgb}
-use Rattle.gf_shape.specs.declared.point.Point.{Point}
+use Rattle.gf_plane.specs.declared.colour.Rgb.{Rgb}
+use Rattle.gf_plane.specs.declared.point.Point.{Point}
 use Rattle.gf_shape.specs.FigureMeaning.{outline_holds}
 use Rattle.gf_shape.specs.ShapeMeaning.{any_holds}
 use Rattle.gf_figures.specs.DrawingState.{DrawingState}
@@ -16,10 +16,11 @@ use Rattle.gf_studio.specs.declared.painting.Extent.{Extent}
 use Rattle.gf_studio.specs.declared.painting.Extent.TheVariants.{Fitted, Window}
 use Rattle.gf_studio.specs.declared.painting.Format.{Format}
 use Rattle.gf_studio.specs.declared.painting.Format.TheVariants.{Fig, Lines}
-use Rattle.gf_studio.specs.declared.studio_error.StudioError.{StudioError}
+use Rattle.gf_run.specs.declared.studio_error.StudioError.{StudioError}
 use Rattle.gf_studio.specs.FigRun.{Draws, HoldsBack}
 use Rattle.gf_studio.specs.PaintRun.{IsDenoted, IsMeant, IsPictureIn, WritesBandsIn}
-use Rattle.gf_studio.specs.RefusedRuns.{RefusesFig, RefusesLines}
+use Rattle.gf_run.specs.RefusedRuns.{RefusesFig}
+use Rattle.gf_studio.specs.RefusedRuns.{RefusesLines}
 
 -- w is the window that fits the drawing of the history that the bytes denote
 pub record FitsLines (bytes : List ℕ) (frame : Sides) (w : View) : Type 0 where

@@ -1,8 +1,8 @@
 -- What the errors of the parts of a run say. No public clause cites this module.
 use Rattle.std.specs.Prelude.{◌≡◌, List, ⊤}
 use Rattle.gf_ops.specs.declared.op.Op.{Op}
-use Rattle.gf_studio.specs.declared.studio_error.StudioError.{StudioError}
-use Rattle.gf_studio.specs.declared.studio_error.StudioError.TheVariants as studio
+use Rattle.gf_run.specs.declared.studio_error.StudioError.{StudioError}
+use Rattle.gf_run.specs.declared.studio_error.StudioError.TheVariants as studio
 use Rattle.gf_studio.specs.declared.inspecting.Query.{Query}
 use Rattle.gf_studio.specs.declared.inspecting.Query.TheVariants as asked
 use Rattle.gf_studio.specs.InspectRun.{IsMissing}
@@ -12,10 +12,3 @@ abbrev pub RefusesQuery : List Op → Query → StudioError → Type 0
 RefusesQuery h query (studio.NoObject o) = (query ≡ asked.Object o) × IsMissing h o
 RefusesQuery h query studio.OutOfMemory = ⊤
 RefusesQuery h query other = ⊥
-
--- the error came between the last read and the first write
-abbrev pub IsBetween : StudioError → Type 0
-IsBetween studio.ReadFailed = ⊥
-IsBetween studio.TooLong = ⊥
-IsBetween studio.WriteFailed = ⊥
-IsBetween other = ⊤

@@ -7,19 +7,20 @@ ghost use Rattle.gf_fig_read.specs.FigGrammar.{Reads};
 ghost use Rattle.gf_versions.specs.Ranking.{AreRanked};
 ghost use Rattle.gf_studio.specs.FigRun.{Draws, HoldsBack, IsDrawn, RefusesHistory};
 ghost use Rattle.gf_studio.specs.Refusals.{of_ranked};
-ghost use Rattle.gf_studio.specs.RefusedParts.{IsBetween};
-ghost use Rattle.gf_studio.specs.RefusedRuns.{IsOfInput, RefusesFig, RefusesLines};
+ghost use Rattle.gf_run.specs.RefusedRuns.{IsBetween};
+ghost use Rattle.gf_run.specs.RefusedRuns.{RefusesFig};
+ghost use Rattle.gf_studio.specs.RefusedRuns.{RefusesLines};
 ghost use Rattle.gf_studio.specs.PaintRun.{IsMeant};
-ghost use Rattle.gf_studio.specs.RunAnswers.{ReadsInput};
+ghost use Rattle.gf_run.specs.RunAnswers.{ReadsInput};
 
-use crate::StudioError;
 use gf_drawing::{CompileFault, compile};
 use gf_fig_read::read_fig;
 use gf_figures::Drawing;
 use gf_replay::read_replica;
+use gf_run::{StudioError, input};
 use gf_shape::{AnyShape, OutOfMemory, Outline};
 use gf_site::Replica;
-use gf_streams::{Source, read_input};
+use gf_streams::Source;
 use gf_versions::{MOST_VERSIONS, Ranked};
 use gf_visible::ranked_within;
 use std::alloc::Global;
@@ -69,16 +70,6 @@ pub fn drawing_of_fig<R: Source>(
 {
     let text = input(alloc, source)?;
     outlines(alloc, &text)
-}
-
-/// All bytes of a source.
-pub fn input<R: Source>(alloc: Global, source: &mut R) -> Result<Vec<u8>, StudioError>
-    ensures ok { IfOk result (λ bytes. IfSome (R.left source.old) (λ all. bytes.items ≡ all)) }
-    ensures source { ReadsInput R.Source source.old source.new result }
-    ensures refused { IfErr result IsOfInput }
-{
-    let bytes = read_input(alloc, source)?;
-    Ok(bytes)
 }
 
 /// The drawing of the history that these bytes denote, and how many operations wait behind it.

@@ -3,15 +3,16 @@
 ghost use Rattle.std.specs.Prelude.{◌≢◌, ◌≤◌, IfSome, IfOk, IfErr, OnOk};
 ghost use Rattle.gf_studio.specs.InspectRun.{AnswersQuery, Tells, TellsTop, TellsVersions};
 ghost use Rattle.gf_studio.specs.InspectRun.{WritesAnswer};
-ghost use Rattle.gf_studio.specs.RefusedParts.{IsBetween, RefusesQuery};
+ghost use Rattle.gf_run.specs.RefusedRuns.{IsBetween};
+ghost use Rattle.gf_studio.specs.RefusedParts.{RefusesQuery};
 ghost use Rattle.gf_studio.specs.RefusedRuns.{RefusesAnswer};
-ghost use Rattle.gf_studio.specs.RunAnswers.{LeavesSink, ReadsInput};
+ghost use Rattle.gf_run.specs.RunAnswers.{LeavesSink, ReadsInput};
 
-use crate::{StudioError, input};
 use gf_groups::GroupFault;
 use gf_inspect::{lines, top_at_with, top_line, versions_with};
 use gf_ops::ObjectId;
 use gf_replay::read_replica;
+use gf_run::{StudioError, input};
 use gf_shape::{OutOfMemory, Point};
 use gf_site::Replica;
 use gf_streams::{Sink, SinkFault, Source, write_whole};

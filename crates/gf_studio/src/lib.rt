@@ -9,7 +9,7 @@
 //!   of an [`Extent`]: a [`Window`], or the one of a [`Frame`] that fits. [`Painted`] has the window.
 //! - [`paint_run`], [`repaint_run`]: the same of operation lines, and of a FIG text, in a window.
 //! - [`inspect_run`]: reads operation lines and writes what their history answers to a [`Query`].
-//! - [`input`], [`draw_replica`]: what a run begins with, and the drawing of a replica's history.
+//! - [`draw_replica`]: the drawing of a replica's history.
 //! - [`drawing_of_lines`], [`drawing_of_fig`]: the drawing that the bytes of a source denote; of
 //!   lines it is [`DrawnLines`], with how many operations wait.
 //! - [`the_same_operations_draw_alike`], [`the_same_histories_draw_alike`]: the laws that neither
@@ -23,7 +23,8 @@
 //!
 //! [`Source`], [`read_input`], [`MOST_INPUT_BYTES`], [`In`], [`Reel`], [`SourceFault`],
 //! [`InputError`] and [`TextLines`] come from `gf_streams`, [`Window`], [`Gate`] and [`OpenGate`]
-//! from `gf_raster`, [`Frame`] from `gf_fit`, and [`LineCause`] from `gf_replay`.
+//! from `gf_raster`, [`Frame`] from `gf_fit`, [`LineCause`] from `gf_replay`, and [`StudioError`]
+//! from `gf_run`.
 #![tactic(auto)]
 
 mod drawings;
@@ -32,12 +33,12 @@ mod laws;
 mod naming;
 mod painting;
 mod runs;
-mod studio_error;
 
-pub use drawings::{DrawnLines, draw_replica, drawing_of_fig, drawing_of_lines, input};
+pub use drawings::{DrawnLines, draw_replica, drawing_of_fig, drawing_of_lines};
 pub use gf_fit::Frame;
 pub use gf_raster::{Gate, OpenGate, Window};
 pub use gf_replay::LineCause;
+pub use gf_run::StudioError;
 pub use gf_streams::{
     In, InputError, MOST_INPUT_BYTES, Reel, Source, SourceFault, TextLines, read_input,
 };
@@ -50,4 +51,3 @@ pub use laws::{
 pub use naming::{NamedRun, named_fig_run};
 pub use painting::{Extent, Format, Painted, Picture, picture_run};
 pub use runs::{fig_run, paint_run, repaint_run};
-pub use studio_error::StudioError;

@@ -6,13 +6,13 @@ ghost use Rattle.gf_studio.specs.PaintRun.{WritesPicture};
 ghost use Rattle.gf_studio.specs.PictureParts.{IsWindowOver};
 ghost use Rattle.gf_studio.specs.PictureRun.{IsShownBy, IsWindowOf, LeavesOut, Paints};
 ghost use Rattle.gf_studio.specs.PictureRun.{PaintsBands, RefusesFormat};
-ghost use Rattle.gf_studio.specs.RunAnswers.{LeavesPicture, ReadsInput};
+ghost use Rattle.gf_run.specs.RunAnswers.{LeavesPicture, ReadsInput};
 
-use crate::StudioError;
 use crate::drawings::{drawing_of_fig, drawing_of_lines};
 use gf_figures::Drawing;
 use gf_fit::{Frame, fitted_window};
 use gf_raster::{Gate, Window, ppm_to};
+use gf_run::StudioError;
 use gf_shape::Shape;
 use gf_streams::{Sink, Source};
 use std::alloc::Global;

@@ -3,14 +3,15 @@
 ghost use Rattle.std.specs.Prelude.{◌≤◌, IfSome, IfOk, IfErr, OnOk};
 ghost use Rattle.gf_studio.specs.FigRun.{Exports, HoldsBack, IsFigOf, Writes};
 ghost use Rattle.gf_studio.specs.PaintRun.{IsDenoted, IsMeant, PaintsWindow, WritesPicture};
-ghost use Rattle.gf_studio.specs.RefusedRuns.{RefusesFig, RefusesLines};
-ghost use Rattle.gf_studio.specs.RunAnswers.{LeavesSink, ReadsInput};
+ghost use Rattle.gf_run.specs.RefusedRuns.{RefusesFig};
+ghost use Rattle.gf_studio.specs.RefusedRuns.{RefusesLines};
+ghost use Rattle.gf_run.specs.RunAnswers.{LeavesSink, ReadsInput};
 
-use crate::StudioError;
 use crate::drawings::drawing_of_lines;
 use crate::painting::{Extent, Format, Picture, picture_run};
 use gf_fig_write::write_fig;
 use gf_raster::{Gate, Window};
+use gf_run::StudioError;
 use gf_streams::{Sink, Source};
 use std::alloc::Global;
 use std::thread::Threads;

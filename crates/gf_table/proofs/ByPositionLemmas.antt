@@ -7,7 +7,7 @@ use Rattle.gf_maximal.specs.Growing.{image}
 use Rattle.gf_maximal.specs.LargestSets.{IsRising}
 use Rattle.gf_maximal.proofs.ImageLemmas.{Made, image_rises, in_image, largest_image}
 use Rattle.gf_maximal.proofs.LargestLemmas.{IsConflict}
-use Rattle.gf_maximal.proofs.PairLemmas.{Pairs-from, Pairs-map}
+use Rattle.gf_base.proofs.PairLemmas.{Pairs-from, Pairs-map}
 use Rattle.gf_components.specs.Components.{ComponentState, ComponentsState, alone, whole}
 use Rattle.gf_components.specs.Separate.{Apart, AreComponents, IsComponent, AreSetsKept}
 use Rattle.gf_components.proofs.ComponentLemmas.{all_of_fold}

@@ -1,13 +1,13 @@
 -- Components list the largest compatible sets of their positions, and so the versions of their
 -- object.
-use Rattle.std.proofs.Common.{ℕ, Bool, List, [], ◌∷◌, length, map, inl, inr}
+use Rattle.std.proofs.Common.{ℕ, Bool, List, [], ◌∷◌, map, inl, inr}
 use Rattle.std.specs.Prelude.{Contains, Option, Some, None, unwrap_or}
 use Rattle.std.specs.List.{fold}
 use Rattle.gf_ops.specs.declared.op.Op.{Op}
 use Rattle.gf_ops.specs.declared.op.ObjectId.{ObjectId}
 use Rattle.gf_ops.specs.ValidHistory.{IsValid}
 use Rattle.gf_base.proofs.ListLemmas.{Contains-cons_head, Contains-cons_tail}
-use Rattle.gf_maximal.specs.Pairs.{Pairs}
+use Rattle.gf_base.specs.Pairs.{Pairs}
 use Rattle.gf_maximal.specs.LargestSets.{IsRising, AreLargestSets}
 use Rattle.gf_maximal.proofs.LargestLemmas.{IsConflict}
 use Rattle.gf_maximal.proofs.UnitedLemmas.{Contains-united}
@@ -18,11 +18,11 @@ use Rattle.gf_components.specs.Separate.{Apart, AreComponents, IsComponent, AreS
 use Rattle.gf_components.proofs.ComponentLemmas.{all_of_merged}
 use Rattle.gf_components.proofs.ProductLemmas.{largest_sets_alike, largest_alone, largest_product}
 use Rattle.gf_groups.specs.Growing.{conflict_at, groups_at}
-use Rattle.gf_groups.specs.GroupedPositions.{group_at, positions_below}
+use Rattle.gf_groups.specs.GroupedPositions.{group_at, positions_on}
 use Rattle.gf_groups.specs.Versions.{IsMade}
 use Rattle.gf_groups.proofs.GroupLemmas.{groups_exactly, groups_once}
 use Rattle.gf_groups.proofs.OnPositionLemmas.{all_positions}
-use Rattle.gf_groups.proofs.PositionLemmas.{positions_below-rising}
+use Rattle.gf_groups.proofs.PositionLemmas.{positions_on-rising}
 use Rattle.gf_groups.proofs.LargestGroupLemmas.{conflict_at_test, largest_groups}
 use Rattle.gf_table.specs.Standing.{AreAllOf, AreComponentsOn, full, listed}
 
@@ -69,9 +69,9 @@ module _ (c : ℕ → ℕ → Bool) (s : IsConflict c) where
 -- ---- the versions of an object
 
 module _ (h : List Op) (o : ObjectId) (t : ComponentsState) (on : AreComponentsOn h o t) where
-  pub sets_listed : AreLargestSets (conflict_at h) (positions_below h o (length h))
+  pub sets_listed : AreLargestSets (conflict_at h) (positions_on h o)
       (listed (conflict_at h) t)
-  sets_listed = largest_sets_alike (conflict_at h) (whole t).all (positions_below h o (length h))
+  sets_listed = largest_sets_alike (conflict_at h) (whole t).all (positions_on h o)
       (listed (conflict_at h) t) on.all (table_listed (conflict_at h) (conflict_at_test h) t
       on.components)
 
@@ -79,8 +79,8 @@ module _ (h : List Op) (o : ObjectId) (t : ComponentsState) (on : AreComponentsO
   pub versions_listed : IsValid h → IsMade h o
       → AreAllOf h o (map (group_at h o) (listed (conflict_at h) t))
   versions_listed valid made =
-      let us = positions_below h o (length h) in
-      let rises = positions_below-rising h o (length h) in
+      let us = positions_on h o in
+      let rises = positions_on-rising h o in
       record {
         exactly = groups_exactly h valid o us (all_positions h o) rises (listed (conflict_at h) t)
             sets_listed made;

@@ -18,7 +18,8 @@ use Rattle.gf_ops.specs.ValidHistory.{IsValid}
 use Rattle.gf_groups.specs.Growing.{both_conflict, conflict_at}
 use Rattle.gf_groups.specs.VersionList.{in_conflict}
 use Rattle.gf_groups.proofs.ConflictTestLemmas.{conflict_decided}
-use Rattle.gf_groups.proofs.OnPositionLemmas.{conflict_with, contained_at}
+use Rattle.gf_base.proofs.PositionLemmas.{contained_at}
+use Rattle.gf_groups.proofs.OnPositionLemmas.{conflict_with}
 use Rattle.gf_rivals.proofs.NextLemmas.{fresh}
 
 module _ (h : List Op) (a : Op) where

@@ -15,7 +15,8 @@ use Rattle.gf_components.proofs.ComponentLemmas.{all_of_fold}
 use Rattle.gf_groups.specs.Growing.{conflict_at}
 use Rattle.gf_groups.specs.GroupedPositions.{is_on}
 use Rattle.gf_groups.proofs.ConflictTestLemmas.{id_decided}
-use Rattle.gf_groups.proofs.OnPositionLemmas.{all_positions, contained_at, position_of_op}
+use Rattle.gf_base.proofs.PositionLemmas.{contained_at}
+use Rattle.gf_groups.proofs.OnPositionLemmas.{all_positions, position_of_op}
 use Rattle.gf_table.specs.ByPosition.{numbers_in}
 use Rattle.gf_table.specs.Standing.{AreComponentsOn, AreOn}
 

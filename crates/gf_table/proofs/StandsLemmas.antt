@@ -3,10 +3,12 @@ use Rattle.std.proofs.Common.{◌≡◌, ◌≢◌, ℕ, ◌<◌, true, List, []
 use Rattle.std.proofs.Common.{subst, sym, ap, ◌∙◌, arith}
 use Rattle.std.specs.Prelude.{◌↔◌, Contains, cond, Option, Some, None, slice_get}
 use Rattle.std.specs.BTreeMap.{is_at}
+use Rattle.std.specs.Cmp.{IsTotalOrder}
 use Rattle.std.specs.Ordering.{is_eq}
 use Rattle.std.proofs.lemmas.Bool.{cases_Bool, cases_lt, cond-true, cond-false}
-use Rattle.std.proofs.lemmas.Cmp.{tied_itself}
+use Rattle.std.proofs.lemmas.Cmp.{on_total, tied_itself}
 use Rattle.std.proofs.lemmas.List.Elements.{Contains-push_cases}
+use Rattle.std.proofs.lemmas.Map.Lookups.{CmpEqualImpliesEq}
 use Rattle.gf_base.proofs.ListLemmas.{not_Contains-nil}
 use Rattle.gf_maximal.proofs.ImageLemmas.{Made}
 use Rattle.std.proofs.lemmas.Option.{get_or_from_slice_get, slice_get_within}
@@ -25,12 +27,12 @@ use Rattle.gf_ops.specs.declared.change.Value.{Value}
 use Rattle.gf_ops.specs.Attribute.{changed_object, object_of}
 use Rattle.gf_groups.specs.Growing.{conflict_at}
 use Rattle.gf_groups.specs.GroupedPositions.{is_on}
-use Rattle.gf_groups.specs.Parting.{object_cmp}
 use Rattle.gf_groups.specs.Versions.{IsMade}
-use Rattle.gf_groups.proofs.OnPositionLemmas.{all_positions, contained_at, made_object, on_op}
+use Rattle.gf_base.proofs.PositionLemmas.{contained_at}
+use Rattle.gf_groups.proofs.OnPositionLemmas.{all_positions, made_object, on_op}
 use Rattle.gf_groups.proofs.OnPositionLemmas.{on_to}
-use Rattle.gf_groups.proofs.PositionLemmas.{Contains-positions_below}
-use Rattle.gf_groups.proofs.PartingLemmas.{object_cmp_total, object_cmp_exact}
+use Rattle.gf_groups.proofs.PositionLemmas.{Contains-positions_on}
+use Rattle.gf_groups.proofs.IdLemmas.{id_cmp_total, id_cmp_exact}
 use Rattle.gf_groups.proofs.SortedLemmas.{equal_left}
 use Rattle.gf_groups.proofs.LargestGroupLemmas.{conflict_at_test}
 use Rattle.gf_components.specs.Components.{ComponentState, ComponentsState, alone, no_components}
@@ -38,10 +40,17 @@ use Rattle.gf_components.specs.Components.{whole}
 use Rattle.gf_components.proofs.ComponentLemmas.{all_of_fold, first_components}
 use Rattle.gf_table.specs.ByPosition.{components_at}
 use Rattle.gf_table.specs.ObjectState.{ObjectState, maker_key, key_conflict, position_in}
-use Rattle.gf_table.specs.Standing.{AreComponentsOn, IsStateOf, IsObjectState, StandsFor, state_of}
+use Rattle.gf_table.specs.Standing.{AreComponentsOn, IsStateOf, IsObjectState, StandsFor}
+use Rattle.gf_table.specs.Standing.{object_cmp, state_of}
 use Rattle.gf_table.proofs.ByPositionLemmas.{components_image, whole_image}
 use Rattle.gf_table.proofs.StateLemmas.{maker_position, key_at, keys_test, one_key}
 use Rattle.gf_table.proofs.StateLemmas.{setter_at, state_kept}
+
+pub object_cmp_total : IsTotalOrder object_cmp
+object_cmp_total = on_total (λ (o : ObjectId). o.0) id_cmp_total
+
+object_cmp_exact : CmpEqualImpliesEq object_cmp
+object_cmp_exact o p e = let q = id_cmp_exact o.0 p.0 e in λ i. record { 0 = q i }
 
 at_told : (o q : ObjectId) → is_at (object_cmp o) q ≡ true → o ≡ q
 at_told o q t = object_cmp_exact o q (equal_left (object_cmp o q) t)
@@ -120,7 +129,7 @@ module _ (h : List Op) (o : ObjectId) where
   component_below s on p inside i j =
       let w = (on.all i).0 ((all_of_fold (conflict_at h) (alone s.free) s.components i).1
       (inr (p, inside, j))) in
-      ((Contains-positions_below h o (length h) i).0 w).0
+      ((Contains-positions_on h o i).0 w).0
 
   module _ (valid : IsValid h) (t : ObjectState) (s : IsStateOf h o t) where
     abbrev f : ℕ → ℕ

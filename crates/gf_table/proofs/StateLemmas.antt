@@ -26,7 +26,8 @@ use Rattle.gf_components.specs.Separate.{AreComponents, IsNewWith}
 use Rattle.gf_components.proofs.AgreeLemmas.{components_agree}
 use Rattle.gf_components.proofs.ComponentLemmas.{components_after}
 use Rattle.gf_groups.specs.Growing.{conflict_at}
-use Rattle.gf_groups.proofs.OnPositionLemmas.{conflict_from, contained_at}
+use Rattle.gf_base.proofs.PositionLemmas.{contained_at}
+use Rattle.gf_groups.proofs.OnPositionLemmas.{conflict_from}
 use Rattle.gf_groups.proofs.LargestGroupLemmas.{conflict_at_test}
 use Rattle.gf_rivals.specs.declared.log.Setter.{Setter}
 use Rattle.gf_rivals.specs.declared.fingerprint.Fingerprint.{Fingerprint}

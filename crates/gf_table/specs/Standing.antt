@@ -1,10 +1,11 @@
 -- When a table stands for a history: it has the setters and the components of each object.
 use Rattle.std.specs.Prelude.{◌≡◌, ◌≢◌, ◌↔◌, ◌⊎◌, ℕ, Bool, List, []}
-use Rattle.std.specs.Prelude.{◌∷◌, ◌++◌, AllPairs, Contains, length, Option, Some, None}
+use Rattle.std.specs.Prelude.{◌∷◌, ◌++◌, AllPairs, Contains, Option, Some, None}
 use Rattle.std.specs.Prelude.{IfSome, slice_get, true, unwrap_or}
 use Rattle.std.specs.BTreeMap.{is_at}
 use Rattle.std.specs.List.{fold}
 use Rattle.std.specs.Map.{lookup}
+use Rattle.std.specs.declared.cmp.Ordering.{Ordering}
 use Rattle.gf_ops.specs.declared.op.Op.{Op}
 use Rattle.gf_ops.specs.declared.op.ObjectId.{ObjectId}
 use Rattle.gf_ops.specs.declared.op.OpId.{OpId}
@@ -13,11 +14,11 @@ use Rattle.gf_ops.specs.declared.change.Value.{Value}
 use Rattle.gf_ops.specs.Accepted.{IsAccepted}
 use Rattle.gf_ops.specs.Attribute.{Kind, made_kind, object_of}
 use Rattle.gf_ops.specs.Limits.{IsInRange}
+use Rattle.gf_ops.specs.OperationOrder.{id_cmp}
 use Rattle.gf_ops.specs.ValidHistory.{IsValid}
 use Rattle.gf_groups.specs.declared.group.Group.{Group}
 use Rattle.gf_groups.specs.Growing.{conflict_at, groups_at}
-use Rattle.gf_groups.specs.GroupedPositions.{is_on, positions_below}
-use Rattle.gf_groups.specs.Parting.{object_cmp}
+use Rattle.gf_groups.specs.GroupedPositions.{is_on, positions_on}
 use Rattle.gf_groups.specs.Versions.{IsVersionGroup}
 use Rattle.gf_components.specs.Components.{ComponentState, ComponentsState, IsReached, products}
 use Rattle.gf_components.specs.Components.{whole}
@@ -73,6 +74,10 @@ abbrev pub IsObjectState : List Op → ObjectId → Option ObjectState → Type 
 IsObjectState h o (Some t) = IsStateOf h o t
 IsObjectState h o None = (a : Op) → Contains h a → object_of a ≢ o
 
+-- objects are ordered by their ids
+abbrev pub object_cmp : ObjectId → ObjectId → Ordering
+object_cmp o p = id_cmp o.0 p.0
+
 -- what the table has for the object o
 abbrev pub state_of : List (ObjectId × ObjectState) → ObjectId → Option ObjectState
 state_of t o = lookup (is_at (object_cmp o)) t
@@ -84,7 +89,7 @@ StandsFor h t = (o : ObjectId) → IsObjectState h o (state_of t o)
 -- s are the components of the operations of h on the object o, by their positions
 pub record AreComponentsOn (h : List Op) (o : ObjectId) (s : ComponentsState) : Type 0 where
   pub components : AreComponents (conflict_at h) s
-  pub all : (i : ℕ) → Contains (whole s).all i ↔ Contains (positions_below h o (length h)) i
+  pub all : (i : ℕ) → Contains (whole s).all i ↔ Contains (positions_on h o) i
 
 -- ops are the operations of h on the object o
 abbrev pub AreOn : List Op → ObjectId → List Op → Type 0

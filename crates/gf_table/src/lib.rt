@@ -4,8 +4,8 @@
 //!   the next operation.
 //! - [`Versions`]: the same, borrowed. It lists or counts the versions of an object. Those who ask
 //!   for versions hold this, and no table.
-//! - [`GroupTable`]: stands for a history, takes the next operation, and lists the versions of an
-//!   object as `groups_of` does.
+//! - [`groups_of`]: the versions of an object of a history alone.
+//! - [`GroupTable`]: the table alone, for those who keep a history beside it.
 //! - [`the_versions_are_what_is_free_with_one_set_of_each_component`]: the law.
 #![tactic(auto)]
 
@@ -20,5 +20,5 @@ mod versions;
 
 pub use laws::the_versions_are_what_is_free_with_one_set_of_each_component;
 pub use table::GroupTable;
-pub use versioned::VersionedHistory;
+pub use versioned::{VersionedHistory, groups_of};
 pub use versions::Versions;

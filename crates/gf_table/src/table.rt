@@ -5,16 +5,15 @@ ghost use Rattle.std.specs.BTreeMap.{insert_entry, is_at};
 ghost use Rattle.gf_ops.specs.Accepted.{IsAccepted};
 ghost use Rattle.gf_ops.specs.Limits.{IsInRange};
 ghost use Rattle.gf_groups.specs.declared.faults.GroupFault.{GroupFault};
-ghost use Rattle.gf_groups.specs.Parting.{object_cmp};
 ghost use Rattle.gf_groups.specs.Versions.{IsMade, AreVersions};
 ghost use Rattle.gf_table.specs.Counting.{IsCount};
-ghost use Rattle.gf_table.specs.Standing.{StandsFor, AreComponentsOn, state_of};
+ghost use Rattle.gf_table.specs.Standing.{StandsFor, AreComponentsOn, object_cmp, state_of};
 
-use crate::listing::listed;
+use crate::Versions;
 use crate::object::ObjectTable;
 use gf_base::OutOfMemory;
 use gf_components::Components;
-use gf_groups::{GroupFault, Groups, groups_from, is_made};
+use gf_groups::{GroupFault, Groups};
 use gf_ops::{Change, History, ObjectId, Op};
 use std::alloc::Global;
 use std::collections::BTreeMap;
@@ -75,7 +74,7 @@ impl GroupTable {
 
     /// The components of the operations on an object, by their positions in the history; none where
     /// there is no operation.
-    pub fn components(
+    pub(crate) fn components(
         &self,
         alloc: Global,
         history: &History,
@@ -107,8 +106,8 @@ impl GroupTable {
         }
     }
 
-    /// The versions of an object, as `groups_of` gives them. The table has positions; the
-    /// operations come from its history.
+    /// The versions of an object, as [`Versions::groups`] gives them, of the history that the table
+    /// stands for.
     pub fn groups(
         &self,
         alloc: Global,
@@ -119,29 +118,7 @@ impl GroupTable {
         ensures groups { IfOk result (λ groups. AreVersions history.now.ops object groups) }
         ensures no_object { result ≡ Err GroupFault.NoObject ↔ (¬ IsMade history.now.ops object) }
     {
-        if !is_made(history, object) {
-            return Err(GroupFault::NoObject);
-        }
-        match self.made_groups(alloc, history, object) {
-            Ok(groups) => Ok(groups),
-            Err(OutOfMemory) => Err(GroupFault::OutOfMemory),
-        }
-    }
-
-    /// The versions of an object that the history made.
-    fn made_groups(
-        &self,
-        alloc: Global,
-        history: &History,
-        object: ObjectId,
-    ) -> Result<Groups, OutOfMemory>
-        requires stands { StandsFor history.now.ops self.now }
-        requires made { IsMade history.now.ops object }
-        ensures { IfOk result (λ groups. AreVersions history.now.ops object groups) }
-    {
-        let components = self.components(alloc, history, object)?;
-        let sets = listed(alloc, history, object, &components)?;
-        groups_from(alloc, history, object, sets)
+        Versions::new(history, self).groups(alloc, object)
     }
 }
 

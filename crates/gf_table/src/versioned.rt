@@ -1,14 +1,17 @@
 //! A history with its versions, which grows by one operation at a time.
 
-ghost use Rattle.std.specs.Prelude.{◌≡◌, ◌++◌, ◌∷◌, [], IfOk, OnErr, OnOk};
+ghost use Rattle.std.specs.Prelude.{◌≡◌, ◌↔◌, ◌++◌, ◌∷◌, [], Err, IfOk, OnErr, OnOk};
 ghost use Rattle.gf_ops.specs.Accepted.{IsAccepted};
 ghost use Rattle.gf_ops.specs.Limits.{IsInRange};
 ghost use Rattle.gf_ops.specs.ValidHistory.{IsValid};
+ghost use Rattle.gf_groups.specs.declared.faults.GroupFault.{GroupFault};
+ghost use Rattle.gf_groups.specs.Versions.{AreVersions, IsMade};
 ghost use Rattle.gf_table.specs.Standing.{StandsFor};
 
 use crate::{GroupTable, Versions};
 use gf_base::OutOfMemory;
-use gf_ops::{History, Op};
+use gf_groups::{GroupFault, Groups, is_made};
+use gf_ops::{History, ObjectId, Op};
 use std::alloc::Global;
 use std::marker::Model;
 
@@ -40,6 +43,17 @@ impl VersionedHistory {
             history: History::new(alloc),
             table: GroupTable::new(alloc),
         }
+    }
+
+    /// The operations of a history with their versions. They are added one by one.
+    pub fn of(alloc: Global, history: &History) -> Result<VersionedHistory, OutOfMemory>
+        ensures { IfOk result (λ versioned. versioned ≡ history.now.ops) }
+    {
+        let mut versioned = VersionedHistory::new(alloc);
+        for op in history.ops() {
+            versioned.add(op.copy(alloc)?)?;
+        }
+        Ok(versioned)
     }
 
     /// A copy of the history with its versions.
@@ -88,5 +102,20 @@ impl VersionedHistory {
         self.table.add(&self.history, &op)?;
         self.history.push(op);
         Ok(())
+    }
+}
+
+/// All versions of an object of a history alone, as [`Versions::groups`] gives them. The call first
+/// adds the history to a [`VersionedHistory`], which those who ask again keep.
+pub fn groups_of(alloc: Global, history: &History, object: ObjectId) -> Result<Groups, GroupFault>
+    ensures groups { IfOk result (λ groups. AreVersions history.now.ops object groups) }
+    ensures no_object { result ≡ Err GroupFault.NoObject ↔ (¬ IsMade history.now.ops object) }
+{
+    if !is_made(history, object) {
+        return Err(GroupFault::NoObject);
+    }
+    match VersionedHistory::of(alloc, history) {
+        Ok(versioned) => versioned.versions().groups(alloc, object),
+        Err(OutOfMemory) => Err(GroupFault::OutOfMemory),
     }
 }

@@ -8,10 +8,11 @@ ghost use Rattle.gf_table.specs.Counting.{IsCount};
 ghost use Rattle.gf_table.specs.Standing.{AreComponentsOn, AreOn, StandsFor};
 
 use crate::GroupTable;
+use crate::listing::listed;
 use crate::operations::operations_in;
 use gf_base::OutOfMemory;
 use gf_components::Components;
-use gf_groups::{GroupFault, Groups};
+use gf_groups::{GroupFault, Groups, groups_from, is_made};
 use gf_ops::{History, ObjectId, Op};
 use std::alloc::Global;
 use std::marker::Model;
@@ -61,12 +62,28 @@ impl<'h> Versions<'h> {
         self.history.ops()
     }
 
-    /// All versions of an object, hidden ones too.
+    /// All versions of an object, hidden ones too, rising by their ids as a dictionary orders them.
     pub fn groups(&self, alloc: Global, object: ObjectId) -> Result<Groups, GroupFault>
         ensures groups { IfOk result (λ groups. AreVersions self.now object groups) }
         ensures no_object { result ≡ Err GroupFault.NoObject ↔ (¬ IsMade self.now object) }
     {
-        self.table.groups(alloc, self.history, object)
+        if !is_made(self.history, object) {
+            return Err(GroupFault::NoObject);
+        }
+        match self.made_groups(alloc, object) {
+            Ok(groups) => Ok(groups),
+            Err(OutOfMemory) => Err(GroupFault::OutOfMemory),
+        }
+    }
+
+    /// All versions of an object that the history made.
+    fn made_groups(&self, alloc: Global, object: ObjectId) -> Result<Groups, OutOfMemory>
+        requires { IsMade self.now object }
+        ensures { IfOk result (λ groups. AreVersions self.now object groups) }
+    {
+        let components = self.components(alloc, object)?;
+        let sets = listed(alloc, self.history, object, &components)?;
+        groups_from(alloc, self.history, object, sets)
     }
 
     /// How many versions an object has, hidden ones too; 1,001 where there are more than 1,000. No

@@ -12,7 +12,7 @@ use Rattle.gf_ops.specs.Limits.{IsInRange}
 use Rattle.gf_ops.specs.ValidHistory.{IsValid}
 use Rattle.gf_base.proofs.ListLemmas.{not_Contains-nil}
 use Rattle.gf_causal.proofs.CourseLemmas.{count_push_same, count_push_other}
-use Rattle.gf_replicas.proofs.GrowingLemmas.{valid_push}
+use Rattle.gf_site.proofs.ValidLemmas.{valid_push}
 
 -- site s adds these operations behind h. Each is accepted behind h and those before it
 pub data AreAdded (s : ℕ) (h : List Op) : List Op → Type 0 where

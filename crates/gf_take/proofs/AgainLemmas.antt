@@ -10,11 +10,11 @@ use Rattle.std.proofs.lemmas.Int.{ints}
 use Rattle.std.proofs.lemmas.List.Elements.{All-head, All-tail, Contains-get_or}
 use Rattle.gf_shape.specs.declared.any_shape.AnyShape.{AnyShape}
 use Rattle.gf_shape.specs.declared.any_shape.AnyShape.TheVariants as any
-use Rattle.gf_shape.specs.declared.colour.Rgb.{Rgb}
+use Rattle.gf_plane.specs.declared.colour.Rgb.{Rgb}
 use Rattle.gf_shape.specs.declared.outline.Outline.{Outline}
-use Rattle.gf_shape.specs.declared.point.Point.{Point}
+use Rattle.gf_plane.specs.declared.point.Point.{Point}
 use Rattle.gf_shape.specs.Area.{Area, corners_again, far_corner}
-use Rattle.gf_shape.specs.Moving.{minus, plus}
+use Rattle.gf_plane.specs.Moving.{minus, plus}
 use Rattle.gf_shape.specs.Oblong.{Oblong}
 use Rattle.gf_shape.specs.Opened.{opened}
 use Rattle.gf_shape.specs.Outlines.{any_outline}

@@ -12,9 +12,9 @@ use Rattle.gf_shape.specs.declared.any_shape.AnyShape.{AnyShape}
 use Rattle.gf_shape.specs.declared.any_shape.AnyShape.TheVariants as any
 use Rattle.gf_shape.specs.declared.outline.Outline.{Outline}
 use Rattle.gf_shape.specs.declared.outline.Outline.TheVariants.{Chain, Disc, Oval}
-use Rattle.gf_shape.specs.declared.point.Point.{Point}
+use Rattle.gf_plane.specs.declared.point.Point.{Point}
 use Rattle.gf_shape.specs.Area.{Area}
-use Rattle.gf_shape.specs.Moving.{plus}
+use Rattle.gf_plane.specs.Moving.{plus}
 use Rattle.gf_shape.specs.Opened.{opened}
 use Rattle.gf_shape.specs.Outlines.{any_outline, rect_outline}
 use Rattle.gf_shape.specs.Ring.{Ring, IsRing}

@@ -25,7 +25,7 @@ use Rattle.gf_causal.proofs.FinishLemmas.{delivery-push}
 use Rattle.gf_site.specs.SiteState.{authored, clock_of}
 use Rattle.gf_site.proofs.CourseLemmas.{all_ready}
 use Rattle.gf_replay.specs.Denoting.{Delivers}
-use Rattle.gf_keep.specs.MadeOf.{MakesEach, none as each_none, next as each_next}
+use Rattle.gf_site.specs.MadeEach.{MakesEach, none as each_none, next as each_next}
 use Rattle.gf_take.specs.Bases.{AreRead, JoinsTake}
 use Rattle.gf_take.proofs.PartLemmas.{accepted_beyond, base_own, base_within}
 use Rattle.gf_take.proofs.AddedLemmas.{AreAdded, added_accepted, added_count, added_own}

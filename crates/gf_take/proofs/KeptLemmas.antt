@@ -5,8 +5,7 @@ use Rattle.std.proofs.Common.{inr}
 use Rattle.std.proofs.Common.{arith}
 use Rattle.std.specs.Prelude.{Contains}
 use Rattle.std.proofs.lemmas.Bool.{cases_Bool, cases_lt}
-use Rattle.std.proofs.lemmas.List.{append-nil, take-append-drop, take-append-le, take_all}
-use Rattle.std.proofs.lemmas.List.{get_or_append_left, get_or-append_right, length-append}
+use Rattle.std.proofs.lemmas.List.{append-nil, take-append-drop}
 use Rattle.std.proofs.lemmas.List.Elements.{Contains-append_left, Contains-get_or, Contains-push}
 use Rattle.std.proofs.lemmas.List.Elements.{filter-append}
 use Rattle.gf_base.proofs.FilterLemmas.{Contains-filter}
@@ -14,38 +13,11 @@ use Rattle.gf_ops.specs.declared.op.Op.{Op}
 use Rattle.gf_ops.specs.Accepted.{AreAccepted, IsAccepted, next, none}
 use Rattle.gf_ops.specs.OperationOrder.{Precedes, count_of, entry}
 use Rattle.gf_ops.specs.ValidHistory.{IsValid}
+use Rattle.gf_ops.proofs.AcceptedLemmas.{accepted_at}
 use Rattle.gf_causal.specs.Ready.{IsReady}
 use Rattle.gf_causal.proofs.CourseLemmas.{count_within, has_counted, number_counted}
 use Rattle.gf_causal.proofs.PartLemmas.{part_accepts}
 use Rattle.gf_site.proofs.CourseLemmas.{all_ready}
-
--- ---- each operation was accepted behind those before it
-
-record IsAcceptedAt (h : List Op) (a : Op) : Type 0 where
-  run : AreAccepted h
-  accepted : IsAccepted h a
-
-accepted_at : {h : List Op} → AreAccepted h → (i : ℕ) (d : Op) → i < length h
-    → IsAcceptedAt (take i h) (get_or h i d)
-accepted_at none i d l = absurd (omega arith)
-accepted_at (next {h} {a} run accepted) i d l = elim (cases_lt i (length h)) [
-  | inl less ↦
-      let first = sym (take-append-le i h (a ∷ []) (omega arith)) in
-      let item = sym (get_or_append_left h (a ∷ []) d i less) in
-      let was = accepted_at run i d less in
-      subst (λ x. IsAcceptedAt (take i (h ++ a ∷ [])) x) item
-      (subst (λ k. IsAcceptedAt k (get_or h i d)) first was)
-  | inr more ↦
-      let size = length-append h (a ∷ []) in
-      let whole : i ≡ length h = omega arith in
-      let first : take i (h ++ a ∷ []) ≡ h =
-      take-append-le i h (a ∷ []) (omega arith) ∙ take_all i h (omega arith) in
-      let item : get_or (h ++ a ∷ []) i d ≡ a =
-      get_or-append_right h (a ∷ []) i i d (sym whole) (omega arith)
-      ∙ ap (λ n. get_or (a ∷ []) n d) (let z : i - i ≡ 0 = omega arith in z) in
-      subst (λ x. IsAcceptedAt (take i (h ++ a ∷ [])) x) (sym item)
-      (subst (λ k. IsAcceptedAt k a) (sym first) (record { run = run; accepted = accepted }))
-]
 
 -- ---- what is kept of one more
 

@@ -6,9 +6,9 @@ use Rattle.std.specs.Prelude.{All, Some, slice_get}
 use Rattle.std.proofs.lemmas.List.{append-nil, map-append, take_all, take_more, drop-map, take-map}
 use Rattle.std.proofs.lemmas.List.Elements.{All-head, All-nil, All-push, All-tail}
 use Rattle.gf_shape.specs.declared.any_shape.AnyShape.{AnyShape}
-use Rattle.gf_shape.specs.declared.colour.Rgb.{Rgb}
+use Rattle.gf_plane.specs.declared.colour.Rgb.{Rgb}
 use Rattle.gf_shape.specs.declared.outline.Outline.{Outline}
-use Rattle.gf_shape.specs.declared.point.Point.{Point}
+use Rattle.gf_plane.specs.declared.point.Point.{Point}
 use Rattle.gf_shape.specs.Outlines.{any_outline}
 use Rattle.gf_shape.specs.ShapeLaws.{IsLawful}
 use Rattle.gf_ops.specs.declared.op.Op.{Op}

@@ -12,8 +12,8 @@ use Rattle.gf_site.specs.Events.{Refuses}
 use Rattle.gf_visible.specs.ShownVersions.{HasMoreVisible}
 use Rattle.gf_figures.specs.DrawingState.{DrawingState}
 use Rattle.gf_drawing.specs.CanonicalDrawing.{PaintsAsFig}
-use Rattle.gf_keep.specs.MadeOf.{none}
-use Rattle.gf_edit.proofs.EachLemmas.{each_accepted, each_push, each_valid}
+use Rattle.gf_site.specs.MadeEach.{none}
+use Rattle.gf_site.proofs.EachLemmas.{each_accepted, each_push, each_valid}
 use Rattle.gf_take.specs.declared.take_error.TakeError.{TakeError}
 use Rattle.gf_take.specs.declared.take_error.TakeError.TheVariants as take
 use Rattle.gf_take.specs.ShownDrawing.{ShowsDrawing}

@@ -4,9 +4,9 @@ use Rattle.std.proofs.Common.{get_or, refl, sym, ap, subst, ◌∙◌, arith}
 use Rattle.std.proofs.lemmas.List.{map-append, take_more}
 use Rattle.std.proofs.lemmas.List.Elements.{All-head, All-push, All-tail}
 use Rattle.gf_shape.specs.declared.any_shape.AnyShape.{AnyShape}
-use Rattle.gf_shape.specs.declared.colour.Rgb.{Rgb}
+use Rattle.gf_plane.specs.declared.colour.Rgb.{Rgb}
 use Rattle.gf_shape.specs.declared.outline.Outline.{Outline}
-use Rattle.gf_shape.specs.declared.point.Point.{Point}
+use Rattle.gf_plane.specs.declared.point.Point.{Point}
 use Rattle.gf_shape.specs.Outlines.{any_outline}
 use Rattle.gf_shape.specs.ShapeLaws.{IsLawful}
 use Rattle.gf_ops.specs.declared.change.Form.{Form}

@@ -8,8 +8,8 @@ use Rattle.gf_ops.specs.Accepted.{AreAccepted}
 use Rattle.gf_ops.specs.OperationOrder.{Precedes, entry}
 use Rattle.gf_causal.specs.DeliveredPart.{HaveSame}
 use Rattle.gf_replay.specs.Denoting.{Delivers}
-use Rattle.gf_edit.specs.EditedText.{Blocks}
-use Rattle.gf_keep.specs.MadeOf.{MakesEach}
+use Rattle.gf_causal.specs.Blocking.{Blocks}
+use Rattle.gf_site.specs.MadeEach.{MakesEach}
 
 -- the operations b are some of h, and with each of them all that it knows
 pub record IsClosedPart (h b : List Op) : Type 0 where

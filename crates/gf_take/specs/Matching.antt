@@ -4,9 +4,9 @@ use Rattle.std.specs.Prelude.{◌≡◌, ℕ, Bool, ◌||◌, ℤ, int_lt, List,
 use Rattle.std.specs.Prelude.{slice_get, take}
 use Rattle.gf_shape.specs.declared.any_shape.AnyShape.{AnyShape}
 use Rattle.gf_shape.specs.declared.bounds.Bounds.{Bounds}
-use Rattle.gf_shape.specs.declared.colour.Rgb.{Rgb}
+use Rattle.gf_plane.specs.declared.colour.Rgb.{Rgb}
 use Rattle.gf_shape.specs.declared.outline.Outline.{Outline}
-use Rattle.gf_shape.specs.declared.point.Point.{Point}
+use Rattle.gf_plane.specs.declared.point.Point.{Point}
 use Rattle.gf_shape.specs.Outlines.{any_outline}
 use Rattle.gf_shape.specs.ShapeLaws.{IsLawful}
 use Rattle.gf_ops.specs.declared.change.Form.{Form}

@@ -12,7 +12,7 @@ use Rattle.gf_versions.specs.declared.ranking.TheConstants.{MOST_VERSIONS}
 use Rattle.gf_visible.specs.ShownVersions.{HasMoreVisible}
 use Rattle.gf_take.specs.declared.take_error.TakeError.{TakeError}
 use Rattle.gf_take.specs.declared.take_error.TakeError.TheVariants as take
-use Rattle.gf_keep.specs.MadeOf.{MakesEach}
+use Rattle.gf_site.specs.MadeEach.{MakesEach}
 use Rattle.gf_figures.specs.DrawingState.{DrawingState}
 use Rattle.gf_take.specs.ShownDrawing.{ShowsDrawing}
 use Rattle.gf_take.specs.Taking.{HasRefusal}

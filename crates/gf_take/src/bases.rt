@@ -1,7 +1,6 @@
 //! The base of a site: what a designer saw, all that the site made, and what these know.
 
 ghost use Rattle.std.specs.Prelude.{◌≡◌, ◌≤◌, [], ◌∷◌, IfOk};
-ghost use Rattle.gf_ops.specs.Accepted.{AreAccepted};
 ghost use Rattle.gf_ops.specs.OperationOrder.{IsSite};
 ghost use Rattle.gf_ops.specs.ValidHistory.{IsValid};
 ghost use Rattle.gf_take.specs.Bases.{IsBase};
@@ -21,8 +20,7 @@ pub fn base_site(
     history: &History,
     seen: &Clock,
 ) -> Result<Site, OutOfMemory>
-    requires site { IsSite site }
-    requires accepted { AreAccepted history.now.ops }
+    requires { IsSite site }
     ensures base { IfOk result (λ base. IsBase site seen.now history.now.ops base.ops) }
     ensures number { IfOk result (λ base. base.number ≡ site) }
     ensures held { IfOk result (λ base. base.held ≡ []) }

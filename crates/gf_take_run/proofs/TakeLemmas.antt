@@ -28,13 +28,13 @@ use Rattle.gf_ops.specs.declared.op.Clock.{Clock}
 use Rattle.gf_ops.specs.declared.change.Change.{Change}
 use Rattle.gf_fig_named.specs.ThinPolygons.{AreThinOf}
 use Rattle.gf_fig_read.specs.Objects.{Drawn}
-use Rattle.gf_studio.specs.declared.studio_error.StudioError.{StudioError}
-use Rattle.gf_studio.specs.declared.studio_error.StudioError.TheVariants as studio
-use Rattle.gf_studio.specs.RefusedParts.{IsBetween}
-use Rattle.gf_studio.specs.RefusedRuns.{IsOfInput, IsOfRun}
-use Rattle.gf_studio.specs.RunAnswers.{WritesPrefix}
+use Rattle.gf_run.specs.declared.studio_error.StudioError.{StudioError}
+use Rattle.gf_run.specs.declared.studio_error.StudioError.TheVariants as studio
+use Rattle.gf_run.specs.RefusedRuns.{IsBetween}
+use Rattle.gf_run.specs.RefusedRuns.{IsOfInput, IsOfRun}
+use Rattle.gf_run.specs.RunAnswers.{WritesPrefix}
 use Rattle.gf_shape.specs.ShapeLaws.{IsLawful}
-use Rattle.gf_keep.specs.MadeOf.{MakesEach, next as each_next, none as each_none}
+use Rattle.gf_site.specs.MadeEach.{MakesEach, next as each_next, none as each_none}
 use Rattle.gf_take.specs.Bases.{IsBase}
 use Rattle.gf_take.specs.ShownDrawing.{LooksLike}
 use Rattle.gf_take.specs.Taking.{Takes}

@@ -16,9 +16,9 @@ use Rattle.gf_fig_read.specs.FigGrammar.{Reads}
 use Rattle.gf_fig_read.specs.Objects.{Drawn}
 use Rattle.gf_import.specs.declared.faults.CreationError.TheVariants as creation
 use Rattle.gf_import.specs.ImportRun.{HasNoCreations}
-use Rattle.gf_studio.specs.declared.studio_error.StudioError.{StudioError}
-use Rattle.gf_studio.specs.RefusedRuns.{IsOfRun, RefusesReading}
-use Rattle.gf_studio.specs.RunAnswers.{WritesText}
+use Rattle.gf_run.specs.declared.studio_error.StudioError.{StudioError}
+use Rattle.gf_run.specs.RefusedRuns.{IsOfRun, RefusesReading}
+use Rattle.gf_run.specs.RunAnswers.{WritesText}
 use Rattle.gf_edit.specs.EditRun.{IsFirstBlocking}
 use Rattle.gf_edit.specs.MadeOperations.{made_of}
 use Rattle.gf_edit.specs.Making.{written_lines}

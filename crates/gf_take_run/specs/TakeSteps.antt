@@ -9,7 +9,7 @@ use Rattle.gf_json.specs.OperationLines.{denoted}
 use Rattle.gf_json.specs.WrittenLines.{op_text}
 use Rattle.gf_fig_named.specs.ThinPolygons.{AreThinOf}
 use Rattle.gf_fig_read.specs.Objects.{Drawn}
-use Rattle.gf_studio.specs.declared.studio_error.StudioError.TheVariants as studio
+use Rattle.gf_run.specs.declared.studio_error.StudioError.TheVariants as studio
 use Rattle.gf_edit.specs.MadeOperations.{made_of}
 use Rattle.gf_edit.specs.Making.{written_lines}
 use Rattle.gf_take.specs.Taking.{RefusesTake}

@@ -2,15 +2,15 @@
 
 ghost use Rattle.std.specs.Prelude.{◌≢◌, ◌≤◌, Some, IfSome, IfOk, IfErr};
 ghost use Rattle.gf_ops.specs.OperationOrder.{IsSite};
-ghost use Rattle.gf_studio.specs.declared.studio_error.StudioError.{StudioError};
-ghost use Rattle.gf_studio.specs.RunAnswers.{LeavesSinkBy, ReadsInputBy};
+ghost use Rattle.gf_run.specs.declared.studio_error.StudioError.{StudioError};
+ghost use Rattle.gf_run.specs.RunAnswers.{LeavesSinkBy, ReadsInputBy};
 ghost use Rattle.gf_take_run.specs.TakeRun.{IsTakeOf, RefusesTaking, TakesText, WritesTake};
 ghost use Rattle.gf_take_run.specs.TakeRun.{of_take};
 
 use crate::taking::{TakenText, take_text};
 use crate::{TakeRunError, Taken};
+use gf_run::{StudioError, input};
 use gf_streams::{Sink, SinkFault, Source, write_whole};
-use gf_studio::{StudioError, input};
 use std::alloc::Global;
 use std::thread::Threads;
 

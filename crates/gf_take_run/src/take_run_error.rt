@@ -1,15 +1,15 @@
 //! Why nothing is taken.
 
 ghost use Rattle.std.specs.Prelude.{◌≡◌};
-ghost use Rattle.gf_studio.specs.declared.studio_error.StudioError.TheVariants as studio;
+ghost use Rattle.gf_run.specs.declared.studio_error.StudioError.TheVariants as studio;
 ghost use Rattle.gf_take_run.specs.declared.take_run_error.TakeRunError.TheVariants as refused;
 
 use crate::BrokenLimit;
 use gf_fig_faults::DrawingFaults;
 use gf_ops::OpId;
+use gf_run::StudioError;
 use gf_shape::OutOfMemory;
 use gf_site::AuthorFault;
-use gf_studio::StudioError;
 use thiserror::Error;
 
 /// Why nothing is taken.

@@ -8,8 +8,8 @@ use Rattle.gf_ops.specs.declared.op.Op.{Op}
 use Rattle.gf_ops.specs.ValidHistory.{IsValid}
 use Rattle.gf_base.proofs.ListLemmas.{Contains-cons_cases, Contains-cons_head, Contains-cons_tail}
 use Rattle.gf_base.proofs.ListLemmas.{Contains-map, Contains-map_from, not_Contains-nil}
-use Rattle.gf_maximal.specs.Pairs.{Pairs}
-use Rattle.gf_maximal.proofs.PairLemmas.{Pairs-map}
+use Rattle.gf_base.specs.Pairs.{Pairs}
+use Rattle.gf_base.proofs.PairLemmas.{Pairs-map}
 use Rattle.gf_versions.specs.declared.key.Version.{Version}
 use Rattle.gf_versions.specs.declared.placed.Placed.{Placed}
 use Rattle.gf_versions.specs.Above.{IsAbove, AreOrdered, same, first_above, second_above}

@@ -26,9 +26,8 @@ use Rattle.gf_versions.specs.Above.{IsAbove, key_cmp}
 use Rattle.gf_versions.specs.ListedVersions.{AreSettled, AreShown, shown_of}
 use Rattle.gf_versions.specs.VersionOf.{IsVersionOf}
 use Rattle.gf_versions.specs.Falling.{falls_by}
-use Rattle.gf_versions.specs.Ranking.{AreRanked, AreRankedOf, group_of, placed_version}
+use Rattle.gf_versions.specs.Ranking.{AreRankedOf, group_of, placed_version}
 use Rattle.gf_groups.specs.declared.group.Group.{Group}
-use Rattle.gf_groups.specs.Versions.{IsVersionGroup}
 use Rattle.gf_versions.proofs.VersionLemmas.{one_of_group}
 use Rattle.gf_versions.specs.KeyOrder.{key_cmp_total}
 use Rattle.gf_versions.proofs.KeyLemmas.{key_cmp_exact}
@@ -210,28 +209,6 @@ ranked_from_sorted h groups made items valid once shown moved sorted = record {
 
     turned : IsPermutation (items_of vs) items
     turned = subst (λ from. IsPermutation from items) shown.placed moved
-
--- the ranking of all groups is that of the history
-pub ranked_of_all : (h : List Op) (groups : List Group) (items : List (Placed AnyShape))
-    → ((g : Group) → IsVersionGroup h g → Contains groups g) → AreRankedOf h groups items
-    → AreRanked h items
-ranked_of_all h groups items all ranked = record {
-  exactly = λ i. (
-    λ is. (ranked.exactly i).0
-        (record {
-          version = is.version;
-          visible = is.visible;
-          grouped = all (group_of is.version) is.visible.version.version;
-          placed = is.placed;
-        }),
-    λ c. let w = (ranked.exactly i).1 c in record {
-      version = w.version;
-      visible = w.visible;
-      placed = w.placed;
-    },
-  );
-  falling = ranked.falling;
-}
 
 shown_fewer : (vs : List Version) → length (shown_of vs) ≤ length vs
 shown_fewer [] = omega arith

@@ -7,11 +7,11 @@ use Rattle.std.proofs.Common.{ap, arith, sym, ◌∙◌}
 use Rattle.std.proofs.lemmas.Bool.{and_parts, and_from}
 use Rattle.std.proofs.lemmas.Bool.Decides.{nat_tests}
 use Rattle.std.proofs.lemmas.Int.{ints}
-use Rattle.gf_shape.specs.declared.point.Point.{Point}
+use Rattle.gf_plane.specs.declared.point.Point.{Point}
 use Rattle.gf_shape.specs.Area.{is_area, is_side}
-use Rattle.gf_shape.specs.Moving.{minus, plus}
-use Rattle.gf_shape.specs.Polygons.{is_polygon_count}
-use Rattle.gf_shape.specs.Reach.{is_reached, is_within_reach}
+use Rattle.gf_plane.specs.Moving.{minus, plus}
+use Rattle.gf_plane.specs.PointCounts.{is_polygon_count}
+use Rattle.gf_plane.specs.Reach.{is_reached, is_within_reach}
 use Rattle.gf_shape.specs.Round.{is_round}
 use Rattle.gf_shape.specs.Oblong.{is_oblong}
 use Rattle.gf_shape.specs.ShapeMeaning.{any_holds, box_holds, circle_holds, ellipse_holds}

@@ -7,8 +7,8 @@ use Rattle.std.specs.declared.cmp.Ordering.{Ordering}
 use Rattle.std.specs.declared.cmp.Ordering.TheVariants.{Less, Equal, Greater}
 use Rattle.std.specs.Ordering.{ordering_reverse}
 use Rattle.std.proofs.lemmas.Bool.{cases_Bool, cond-true, cond-false}
-use Rattle.gf_shape.specs.declared.point.Point.{Point}
-use Rattle.gf_shape.specs.declared.colour.Rgb.{Rgb}
+use Rattle.gf_plane.specs.declared.point.Point.{Point}
+use Rattle.gf_plane.specs.declared.colour.Rgb.{Rgb}
 use Rattle.gf_ops.specs.declared.op.Op.{Op}
 use Rattle.gf_ops.specs.ValidHistory.{IsValid}
 use Rattle.gf_versions.specs.declared.key.Version.{Version}
@@ -16,7 +16,7 @@ use Rattle.gf_versions.specs.declared.key.VersionKey.{VersionKey}
 use Rattle.gf_shape.specs.declared.any_shape.AnyShape.{AnyShape}
 use Rattle.gf_versions.specs.declared.placed.Placed.{Placed}
 use Rattle.gf_shape.specs.ShapeMeaning.{any_holds}
-use Rattle.gf_shape.specs.White.{white}
+use Rattle.gf_plane.specs.White.{white}
 use Rattle.gf_versions.specs.Above.{IsAbove, AreOrdered, same, first_above, second_above, key_cmp}
 use Rattle.gf_versions.specs.ListedVersions.{shown_of}
 use Rattle.gf_versions.specs.HistoryColour.{HistoryColour, HasOneColour, IsSeenAt, IsTopAt, top}

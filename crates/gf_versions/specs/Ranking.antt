@@ -1,12 +1,12 @@
 -- The visible versions of a history in their order (this project's choice).
 use Rattle.std.specs.Prelude.{◌≡◌, Bool, pos, List, AllPairs, Contains, ◌↔◌, find}
 use Rattle.std.specs.Prelude.{option_map, unwrap_or}
-use Rattle.gf_shape.specs.declared.point.Point.{Point}
-use Rattle.gf_shape.specs.declared.colour.Rgb.{Rgb}
+use Rattle.gf_plane.specs.declared.point.Point.{Point}
+use Rattle.gf_plane.specs.declared.colour.Rgb.{Rgb}
 use Rattle.gf_shape.specs.declared.any_shape.AnyShape.{AnyShape}
 use Rattle.gf_shape.specs.declared.any_shape.AnyShape.TheVariants as any
 use Rattle.gf_shape.specs.ShapeMoves.{any_moved}
-use Rattle.gf_shape.specs.White.{white}
+use Rattle.gf_plane.specs.White.{white}
 use Rattle.gf_ops.specs.declared.op.Op.{Op}
 use Rattle.gf_ops.specs.declared.change.Form.{Form}
 use Rattle.gf_ops.specs.declared.change.Form.TheVariants.{Rect, Circle, Ellipse, Polygon}

@@ -1,7 +1,7 @@
 -- Visible versions, and which points one holds (this project's choice).
 use Rattle.std.specs.Prelude.{List, Bool, IsTrue}
-use Rattle.gf_shape.specs.declared.point.Point.{Point}
-use Rattle.gf_shape.specs.Moving.{minus}
+use Rattle.gf_plane.specs.declared.point.Point.{Point}
+use Rattle.gf_plane.specs.Moving.{minus}
 use Rattle.gf_shape.specs.ShapeMeaning.{box_holds, circle_holds, ellipse_holds, polygon_holds}
 use Rattle.gf_ops.specs.declared.op.Op.{Op}
 use Rattle.gf_ops.specs.declared.change.Form.{Form}

@@ -1,4 +1,4 @@
-//! The visible versions of a history, made and sorted.
+//! The visible versions among some groups, made and sorted.
 
 ghost use Rattle.std.specs.Prelude.{◌≡◌, ◌≢◌, ◌≤◌, ◌&&◌, AllPairs, IsTrue, IfOk, OnOk, Contains};
 ghost use Rattle.std.specs.Prelude.{length};
@@ -8,26 +8,18 @@ ghost use Rattle.gf_ops.specs.ValidHistory.{IsValid};
 ghost use Rattle.gf_groups.specs.declared.group.Group.{Group};
 ghost use Rattle.gf_groups.specs.Versions.{IsVersionGroup};
 ghost use Rattle.gf_versions.specs.Falling.{falls_by};
-ghost use Rattle.gf_versions.specs.Ranking.{AreRanked, AreRankedOf, placed_version};
+ghost use Rattle.gf_versions.specs.Ranking.{AreRankedOf, placed_version};
 ghost use Rattle.gf_versions.specs.ListedVersions.{AreShown};
 
 use crate::shaping::shape_at;
 use crate::{Placed, Ranked, Version, settle};
-use gf_groups::{Group, all_groups};
+use gf_groups::Group;
 use gf_ops::History;
 use gf_shape::{AnyShape, OutOfMemory};
 use std::alloc::Global;
 
 /// The greatest number of visible versions that a drawing takes, one for each depth of FIG.
 pub const MOST_VERSIONS: usize = 1_000;
-
-/// The visible versions of a history, topmost first.
-pub fn ranked(alloc: Global, history: &History) -> Result<Ranked<AnyShape>, OutOfMemory>
-    ensures { IfOk result (λ ranked. AreRanked history.now.ops ranked.items.items) }
-{
-    let groups = all_groups(alloc, history)?;
-    ranked_of(alloc, history, groups.as_slice())
-}
 
 /// The visible versions with these groups, topmost first.
 pub fn ranked_of(

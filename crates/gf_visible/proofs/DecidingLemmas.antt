@@ -1,6 +1,6 @@
 -- The largest sets that show are those of what decides in which all that hides is covered, each
 -- with every choice of the rest.
-use Rattle.std.proofs.Common.{◌≡◌, ℕ, Bool, true, false, List, length, inl, inr, subst, sym, ap}
+use Rattle.std.proofs.Common.{◌≡◌, ℕ, Bool, true, false, List, inl, inr, subst, sym, ap}
 use Rattle.std.proofs.Common.{◌∙◌}
 use Rattle.std.specs.Prelude.{◌⊎◌, ◌↔◌, Contains, Option, not, slice_get, unwrap_or}
 use Rattle.std.specs.List.{list_any}
@@ -14,7 +14,7 @@ use Rattle.gf_ops.specs.declared.change.Value.TheVariants as value
 use Rattle.gf_ops.specs.SettledValue.{IsSettled}
 use Rattle.gf_ops.specs.ValidHistory.{IsValid}
 use Rattle.gf_groups.specs.declared.group.Group.{Group}
-use Rattle.gf_groups.specs.GroupedPositions.{group_at, is_on, positions_below, rising_ids}
+use Rattle.gf_groups.specs.GroupedPositions.{group_at, is_on, positions_on, rising_ids}
 use Rattle.gf_groups.specs.Growing.{conflict_at, groups_at}
 use Rattle.gf_groups.specs.Versions.{IsMade, IsVersionGroup}
 use Rattle.gf_groups.proofs.OnPositionLemmas.{all_positions}
@@ -47,7 +47,7 @@ module _ (h : List Op) (o : ObjectId) (t : ComponentsState) (on : AreComponentsO
   ls = lasts h t.free
 
   abbrev us : List ℕ
-  us = positions_below h o (length h)
+  us = positions_on h o
 
   abbrev first : List ℕ
   first = deciding h ls t
@@ -58,7 +58,7 @@ module _ (h : List Op) (o : ObjectId) (t : ComponentsState) (on : AreComponentsO
   -- ---- what a version of both shows
 
   module _ (valid : IsValid h) (made : IsMade h o) (q u k : List ℕ)
-      (l : IsLargest (conflict_at h) (Contains (positions_below h o (length h))) (Contains q))
+      (l : IsLargest (conflict_at h) (Contains (positions_on h o)) (Contains q))
       (parts : (a : ℕ) → Contains q a ↔ (Contains u a ⊎ Contains k a)) (rest : (a : ℕ)
       → Contains k a → Contains (whole (idle h (lasts h t.free) t)).all a) where
     later_free : (i : ℕ) → HasLater h t.free i → HasLater h q i
@@ -146,7 +146,7 @@ module _ (h : List Op) (o : ObjectId) (t : ComponentsState) (on : AreComponentsO
         (groups_at (conflict_at h) (deciding h (lasts h t.free) t))
     table = largest_groups (conflict_at h) (conflict_at_test h) first (first_rises h o t on)
 
-    halves : AreLargestSets (conflict_at h) (positions_below h o (length h))
+    halves : AreLargestSets (conflict_at h) (positions_on h o)
         (products (groups_at (conflict_at h) (deciding h (lasts h t.free) t)) ks)
     halves = largest_sets_alike c (united first second) us (products all ks) (both_halves h o t on)
         (largest_product c (conflict_at_test h) first second (halves_apart h o t on) all ks table
@@ -157,7 +157,7 @@ module _ (h : List Op) (o : ObjectId) (t : ComponentsState) (on : AreComponentsO
     of_rest k i = ((others.each k).0 i).1.within
 
     -- THE SETS THAT SHOW, without a look at the choices of the rest
-    pub are_shown : AreShownSets h (positions_below h o (length h)) (products gs ks)
+    pub are_shown : AreShownSets h (positions_on h o) (products gs ks)
     are_shown = record {
       exactly = λ q. (
         λ i.

@@ -1,5 +1,5 @@
 -- The positions that decide and the rest are all of an object, and no conflict connects them.
-use Rattle.std.proofs.Common.{◌≡◌, ℕ, Bool, true, false, List, [], ◌∷◌, length, inl, inr, subst}
+use Rattle.std.proofs.Common.{◌≡◌, ℕ, Bool, true, false, List, [], ◌∷◌, inl, inr, subst}
 use Rattle.std.proofs.Common.{sym, ◌∙◌}
 use Rattle.std.specs.Prelude.{◌⊎◌, ◌↔◌, Contains, filter, not}
 use Rattle.std.specs.List.{fold}
@@ -10,7 +10,7 @@ use Rattle.gf_ops.specs.declared.op.Op.{Op}
 use Rattle.gf_ops.specs.declared.op.ObjectId.{ObjectId}
 use Rattle.gf_base.proofs.ListLemmas.{Contains-cons_cases, Contains-cons_head, Contains-cons_tail}
 use Rattle.gf_base.proofs.ListLemmas.{not_Contains-nil}
-use Rattle.gf_groups.specs.GroupedPositions.{positions_below}
+use Rattle.gf_groups.specs.GroupedPositions.{positions_on}
 use Rattle.gf_groups.specs.Growing.{conflict_at}
 use Rattle.gf_groups.proofs.LargestGroupLemmas.{conflict_at_test}
 use Rattle.gf_maximal.specs.Growing.{is_in, united, without}
@@ -18,7 +18,7 @@ use Rattle.gf_maximal.specs.LargestSets.{IsLargest, IsRising}
 use Rattle.gf_maximal.proofs.LargestLemmas.{IsConflict}
 use Rattle.gf_base.proofs.FilterLemmas.{Contains-filter}
 use Rattle.gf_maximal.proofs.MaximalLemmas.{from_list, not_in, Contains-without}
-use Rattle.gf_maximal.proofs.PairLemmas.{Pairs-filter, Pairs-two}
+use Rattle.gf_base.proofs.PairLemmas.{Pairs-filter, Pairs-two}
 use Rattle.gf_maximal.proofs.UnitedLemmas.{Contains-united, united_rises}
 use Rattle.gf_components.specs.Components.{ComponentState, ComponentsState, alone, whole}
 use Rattle.gf_components.specs.Separate.{Apart, AreComponents}
@@ -99,7 +99,7 @@ module _ (h : List Op) (o : ObjectId) (t : ComponentsState) (on : AreComponentsO
   m = on.components
 
   abbrev us : List ℕ
-  us = positions_below h o (length h)
+  us = positions_on h o
 
   -- ---- two components
 
@@ -111,17 +111,17 @@ module _ (h : List Op) (o : ObjectId) (t : ComponentsState) (on : AreComponentsO
   two_apart = Pairs-two AreApart t.components (λ p q w a b i j. let d = w b a j i in
       ((λ e. d.0 (sym e)), s.symmetric a b ∙ d.1)) m.apart
 
-  where_is : (a : ℕ) → Contains (positions_below h o (length h)) a
+  where_is : (a : ℕ) → Contains (positions_on h o) a
       ↔ (Contains t.free a ⊎ IsInComponents (conflict_at h) t.components a)
   where_is a = let w = all_of_fold c (alone t.free) t.components a in
       (λ i. w.0 ((on.all a).1 i), λ i. (on.all a).0 (w.1 i))
 
-  pub free_in : (a : ℕ) → Contains t.free a → Contains (positions_below h o (length h)) a
+  pub free_in : (a : ℕ) → Contains t.free a → Contains (positions_on h o) a
   free_in a i = (where_is a).1 (inl i)
 
   -- a version has all that is free
   pub has_free : (v : List ℕ)
-      → IsLargest (conflict_at h) (Contains (positions_below h o (length h))) (Contains v) → (a : ℕ)
+      → IsLargest (conflict_at h) (Contains (positions_on h o)) (Contains v) → (a : ℕ)
       → Contains t.free a → Contains v a
   has_free v l a f = elim (l.largest a (free_in a f)) [
     | inl i ↦ i
@@ -217,7 +217,7 @@ module _ (h : List Op) (o : ObjectId) (t : ComponentsState) (on : AreComponentsO
 
   pub both_halves : (a : ℕ)
       → Contains (united (deciding h (lasts h t.free) t) (whole (idle h (lasts h t.free) t)).all) a
-      ↔ Contains (positions_below h o (length h)) a
+      ↔ Contains (positions_on h o) a
   both_halves a = (
     λ i. (where_is a).1 (elim ((Contains-united first second a).0 i) [
       | inl j ↦ elim ((in_first a).0 j) [
@@ -245,5 +245,5 @@ module _ (h : List Op) (o : ObjectId) (t : ComponentsState) (on : AreComponentsO
       from_ls b y = from_list ls b y
 
   pub first_in : (a : ℕ) → Contains (deciding h (lasts h t.free) t) a
-      → Contains (positions_below h o (length h)) a
+      → Contains (positions_on h o) a
   first_in a i = (both_halves a).0 ((Contains-united first second a).1 (inl i))

@@ -11,7 +11,7 @@ use Rattle.std.proofs.lemmas.Slice.Eq.{bytes_eq-Decides}
 use Rattle.gf_base.proofs.ListLemmas.{Contains-cons_cases, Contains-cons_head, Contains-cons_tail}
 use Rattle.gf_base.proofs.ListLemmas.{Contains-map, Contains-map_from, not_Contains-nil}
 use Rattle.gf_base.proofs.FilterLemmas.{list_any_true, list_any_from}
-use Rattle.gf_maximal.proofs.PairLemmas.{AllPairs-append}
+use Rattle.gf_base.proofs.PairLemmas.{AllPairs-append}
 use Rattle.gf_visible.specs.Cuts.{AreWithin, seen, rivals, cut, cut_all, IsSearched}
 use Rattle.gf_visible.specs.OnePass.{put, pass, passes, search}
 use Rattle.gf_visible.proofs.CutLemmas.{not_true, not_false, in_cut, seen_more}

@@ -14,7 +14,7 @@ use Rattle.gf_ops.specs.Version.{IsMember}
 use Rattle.gf_ops.proofs.ValidityLemmas.{same_op}
 use Rattle.gf_groups.specs.GroupedPositions.{rising_ids}
 use Rattle.gf_groups.proofs.IdPositionLemmas.{Contains-rising_ids}
-use Rattle.gf_groups.proofs.OnPositionLemmas.{contained_at}
+use Rattle.gf_base.proofs.PositionLemmas.{contained_at}
 use Rattle.gf_visible.specs.ShownAt.{shown_by, said_at, shows_or_hides_at, later_at}
 use Rattle.gf_visible.specs.ShownSets.{ShowsSomewhere}
 use Rattle.gf_visible.proofs.SetterLemmas.{same_given, value_from, said_from, said_to, says_yes}

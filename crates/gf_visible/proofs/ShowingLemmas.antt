@@ -20,12 +20,12 @@ use Rattle.gf_base.proofs.ListLemmas.{Contains-cons_cases, Contains-cons_head, C
 use Rattle.gf_base.proofs.ListLemmas.{Contains-map, Contains-map_from, not_Contains-nil}
 use Rattle.gf_maximal.specs.Growing.{is_in, intersects, without}
 use Rattle.gf_maximal.specs.LargestSets.{IsRising}
-use Rattle.gf_maximal.proofs.InsertLemmas.{inserted_all, holds_all}
+use Rattle.gf_base.proofs.InsertLemmas.{inserted_all, holds_all}
 use Rattle.gf_base.proofs.FilterLemmas.{Contains-filter, list_all_true, list_all_from}
 use Rattle.gf_maximal.proofs.MaximalLemmas.{Within, from_list, not_in, intersects_one}
 use Rattle.gf_maximal.proofs.MaximalLemmas.{intersects_from}
 use Rattle.gf_maximal.proofs.MaximalLemmas.{Contains-without}
-use Rattle.gf_maximal.proofs.PairLemmas.{AllPairs-append}
+use Rattle.gf_base.proofs.PairLemmas.{AllPairs-append}
 use Rattle.gf_base.proofs.RisingLemmas.{one_rising, rising_nil}
 use Rattle.gf_visible.specs.Choices.{StepState, holds, all_hold, choices, first, second, step_of}
 use Rattle.gf_visible.specs.Choices.{showing, IsShowing, AreShowing}

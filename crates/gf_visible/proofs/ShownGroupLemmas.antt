@@ -1,5 +1,5 @@
 -- The sets of an object's positions that show are the groups of its visible versions.
-use Rattle.std.proofs.Common.{◌≡◌, ℕ, true, List, length, map, sym, ap, subst}
+use Rattle.std.proofs.Common.{◌≡◌, ℕ, true, List, map, sym, ap, subst}
 use Rattle.std.specs.Prelude.{◌↔◌, All, Contains, slice_get}
 use Rattle.std.proofs.lemmas.List.{length-map}
 use Rattle.std.proofs.lemmas.List.Elements.{All-weaker, All-contains_itself}
@@ -11,15 +11,15 @@ use Rattle.gf_ops.specs.SettledValue.{IsSettled}
 use Rattle.gf_ops.specs.ValidHistory.{IsValid}
 use Rattle.gf_base.proofs.ListLemmas.{Contains-map, Contains-map_from}
 use Rattle.gf_groups.specs.declared.group.Group.{Group}
-use Rattle.gf_groups.specs.GroupedPositions.{is_on, positions_below, rising_ids, group_at}
+use Rattle.gf_groups.specs.GroupedPositions.{is_on, positions_on, rising_ids, group_at}
 use Rattle.gf_groups.specs.Growing.{conflict_at, groups_at}
 use Rattle.gf_maximal.specs.LargestSets.{IsRising, AreLargestSets}
 use Rattle.gf_groups.specs.Versions.{IsMade, IsVersionGroup}
 use Rattle.gf_groups.proofs.GroupLemmas.{groups_exactly, same_group_at}
 use Rattle.gf_groups.proofs.OnPositionLemmas.{all_positions}
-use Rattle.gf_groups.proofs.PositionLemmas.{positions_below-rising}
+use Rattle.gf_groups.proofs.PositionLemmas.{positions_on-rising}
 use Rattle.gf_groups.proofs.LargestGroupLemmas.{conflict_at_test, largest_groups}
-use Rattle.gf_maximal.proofs.PairLemmas.{AllPairs-map}
+use Rattle.gf_base.proofs.PairLemmas.{AllPairs-map}
 use Rattle.gf_groups.proofs.VersionLemmas.{version_of_largest}
 use Rattle.gf_visible.specs.ShownSets.{IsShownSet, AreShownSets, HasMoreSets}
 use Rattle.gf_visible.specs.ShownVersions.{IsVisibleGroup, AreVisibleOn, HasMoreOn}
@@ -36,13 +36,13 @@ sets_rise h us sets all = All-weaker (Contains sets) IsRising (λ g i. ((all.exa
 
 module _ (h : List Op) (valid : IsValid h) (o : ObjectId) (made : IsMade h o) where
   abbrev us : List ℕ
-  us = positions_below h o (length h)
+  us = positions_on h o
 
   on : (i : ℕ) → Contains us i ↔ (is_on o (slice_get h i) ≡ true)
   on = all_positions h o
 
   rises : IsRising us
-  rises = positions_below-rising h o (length h)
+  rises = positions_on-rising h o
 
   abbrev groups : List (List ℕ)
   groups = groups_at (conflict_at h) us
@@ -79,7 +79,7 @@ module _ (h : List Op) (valid : IsValid h) (o : ObjectId) (made : IsMade h o) wh
       }
 
   -- THE VISIBLE VERSIONS of the object
-  pub visible_on : (sets : List (List ℕ)) → AreShownSets h (positions_below h o (length h)) sets
+  pub visible_on : (sets : List (List ℕ)) → AreShownSets h (positions_on h o) sets
       → AreVisibleOn h o (map (group_at h o) sets)
   visible_on sets all = record {
     exactly = λ g. (
@@ -104,7 +104,7 @@ module _ (h : List Op) (valid : IsValid h) (o : ObjectId) (made : IsMade h o) wh
       in_table : (g : List ℕ) → Contains sets g → Contains groups g
       in_table g x = let s = (all.exactly g).0 x in (table.each g).1 (s.rises, s.largest)
 
-  pub more_on : (m : ℕ) → HasMoreSets h (positions_below h o (length h)) m → HasMoreOn h o m
+  pub more_on : (m : ℕ) → HasMoreSets h (positions_on h o) m → HasMoreOn h o m
   more_on m w = record {
     groups = map (group_at h o) w.sets;
     all = visible_on w.sets w.all;

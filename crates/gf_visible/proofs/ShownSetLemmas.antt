@@ -16,7 +16,7 @@ use Rattle.std.proofs.lemmas.Result.{IfOk-weaker}
 use Rattle.gf_ops.specs.declared.op.Op.{Op}
 use Rattle.gf_ops.specs.declared.op.ObjectId.{ObjectId}
 use Rattle.gf_ops.specs.ValidHistory.{IsValid}
-use Rattle.gf_groups.specs.GroupedPositions.{positions_below}
+use Rattle.gf_groups.specs.GroupedPositions.{positions_on}
 use Rattle.gf_groups.specs.Growing.{conflict_at}
 use Rattle.gf_groups.specs.Versions.{IsMade}
 use Rattle.gf_groups.proofs.OnPositionLemmas.{all_positions, on_op}
@@ -49,7 +49,7 @@ use Rattle.gf_visible.proofs.HalvesLemmas.{components_idle, first_in, first_rise
 -- ---- positions of a history that fits
 
 module _ (h : List Op) (o : ObjectId) (m : ℕ) (few : length h < m) where
-  all_fit : (us : List ℕ) → ((a : ℕ) → Contains us a → Contains (positions_below h o (length h)) a)
+  all_fit : (us : List ℕ) → ((a : ℕ) → Contains us a → Contains (positions_on h o) a)
       → All (λ n. n + 1 < m) us
   all_fit us within = All-weaker (Contains us) (λ n. n + 1 < m)
       (λ i x.
@@ -96,11 +96,11 @@ module _ (h : List Op) (o : ObjectId) (t : ComponentsState) (on : AreComponentsO
   -- all that show of what decides
   module _ (shown : List (List ℕ)) (lists : (ks : List (List ℕ))
       → AreLargestSets (conflict_at h) (whole (idle h (lasts h t.free) t)).all ks
-      → AreShownSets h (positions_below h o (length h)) (products shown ks)) where
+      → AreShownSets h (positions_on h o) (products shown ks)) where
     -- more show than so many
     many : (ks : List (List ℕ))
         → AreLargestSets (conflict_at h) (whole (idle h (lasts h t.free) t)).all ks
-        → n < length shown * length ks → IsSetListing h (positions_below h o (length h)) n None
+        → n < length shown * length ks → IsSetListing h (positions_on h o) n None
     many ks table l = let len = length-products shown ks in record {
       sets = products shown ks;
       all = lists ks table;
@@ -108,13 +108,13 @@ module _ (h : List Op) (o : ObjectId) (t : ComponentsState) (on : AreComponentsO
     }
 
     -- more show than so many, since more of what decides show
-    pub more_listing : n < length shown → IsSetListing h (positions_below h o (length h)) n None
+    pub more_listing : n < length shown → IsSetListing h (positions_on h o) n None
     more_listing l = many all_rest.sets all_rest.table
         (times_more n (length shown) (length all_rest.sets) all_rest.some l)
 
     by_idle : 1 ≤ length shown → (r : Option (List (List ℕ)))
         → AreSetsKept (conflict_at h) (whole (idle h (lasts h t.free) t)).all r
-        → IsSetListing h (positions_below h o (length h)) n (at_most n shown r)
+        → IsSetListing h (positions_on h o) n (at_most n shown r)
     by_idle some (Some ks) k = elim (cases_Bool (nat_le (length shown * length ks) n)) [
       | inl y ↦ rw (cond-true (nat_le (length shown * length ks) n) (Some (products shown ks)) None
           y)
@@ -129,20 +129,20 @@ module _ (h : List Op) (o : ObjectId) (t : ComponentsState) (on : AreComponentsO
         many all_rest.sets all_rest.table (more_times n (length shown) (length all_rest.sets) some
         (omega (arith, count, low)))
 
-    by_shown : (xs : List (List ℕ)) → shown ≡ xs → IsSetListing h (positions_below h o (length h)) n
+    by_shown : (xs : List (List ℕ)) → shown ≡ xs → IsSetListing h (positions_on h o) n
         (with_idle h n (lasts h t.free) t xs)
     by_shown [] e = (
-      subst (λ z. AreShownSets h (positions_below h o (length h)) (products z all_rest.sets)) e
+      subst (λ z. AreShownSets h (positions_on h o) (products z all_rest.sets)) e
           (lists all_rest.sets all_rest.table),
       omega arith,
     )
     by_shown (g ∷ xs) e =
         let l = ap length e in
-        subst (λ z. IsSetListing h (positions_below h o (length h)) n
+        subst (λ z. IsSetListing h (positions_on h o) n
         (at_most n z (whole (idle h (lasts h t.free) t)).sets)) e
         (by_idle (omega (arith, l)) (whole (idle h (lasts h t.free) t)).sets is_rest.sets)
 
-    pub listing : IsSetListing h (positions_below h o (length h)) n
+    pub listing : IsSetListing h (positions_on h o) n
         (with_idle h n (lasts h t.free) t shown)
     listing = by_shown shown refl
 
@@ -153,16 +153,16 @@ module _ (h : List Op) (valid : IsValid h) (o : ObjectId) (made : IsMade h o) (t
       (shown : List (List ℕ)) → AreShowing (hides_at h) (covers_at h) (conflict_at h)
       (deciding h (lasts h t.free) t) shown
       → IfOk r (λ told. items told ≡ with_idle h n (lasts h t.free) t shown)
-      → IfOk r (λ told. IsSetListing h (positions_below h o (length h)) n (items told))
+      → IfOk r (λ told. IsSetListing h (positions_on h o) n (items told))
   listing_told items r shown all =
       let listed = listing h o t on n low shown (λ ks others. are_shown h o t on valid made shown ks
       all others) in
-      IfOk-weaker r _ _ (λ told e. subst (IsSetListing h (positions_below h o (length h)) n) (sym e)
+      IfOk-weaker r _ _ (λ told e. subst (IsSetListing h (positions_on h o) n) (sym e)
       listed)
 
   -- where more of what decides show, more show
   pub more_told : HasMoreShowing h (deciding h (lasts h t.free) t) n
-      → IsSetListing h (positions_below h o (length h)) n None
+      → IsSetListing h (positions_on h o) n None
   more_told w = more_listing h o t on n low w.sets
       (λ ks others. are_shown h o t on valid made w.sets ks w.all others) w.many
 

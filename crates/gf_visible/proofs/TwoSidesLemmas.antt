@@ -12,7 +12,7 @@ use Rattle.gf_maximal.specs.Growing.{is_in}
 use Rattle.gf_maximal.specs.LargestSets.{IsRising, IsLargest}
 use Rattle.gf_base.proofs.FilterLemmas.{Contains-filter}
 use Rattle.gf_maximal.proofs.MaximalLemmas.{in_list, from_list}
-use Rattle.gf_maximal.proofs.PairLemmas.{AllPairs-map}
+use Rattle.gf_base.proofs.PairLemmas.{AllPairs-map}
 use Rattle.gf_base.proofs.RisingLemmas.{one_rising}
 use Rattle.gf_visible.specs.Choices.{IsCovered, IsShowing, AreShowing}
 use Rattle.gf_visible.specs.Cuts.{has_some, AreWithin, AreSame, AreApart, rivals, IsLargestPair}

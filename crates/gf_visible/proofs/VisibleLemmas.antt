@@ -28,8 +28,8 @@ use Rattle.gf_base.proofs.ListLemmas.{not_Contains-nil}
 use Rattle.gf_groups.specs.declared.group.Group.{Group}
 use Rattle.gf_groups.specs.Versions.{IsMade, IsVersionGroup, AreVersions, group_cmp}
 use Rattle.gf_groups.proofs.IdPositionLemmas.{same_position}
-use Rattle.gf_maximal.proofs.PairLemmas.{AllPairs-append}
-use Rattle.gf_components.proofs.CountLemmas.{no_longer}
+use Rattle.gf_base.proofs.PairLemmas.{AllPairs-append}
+use Rattle.gf_base.proofs.CountLemmas.{no_longer}
 use Rattle.gf_visible.specs.ShownVersions.{IsVisibleGroup, AreVisibleOn, HasMoreOn, HasMoreVisible}
 use Rattle.gf_visible.specs.VisibleSoFar.{HaveVisible, AreVisibleOf, HaveVisibleOf, HasMoreGroups}
 use Rattle.gf_visible.specs.VisibleSoFar.{IsGroupListing}

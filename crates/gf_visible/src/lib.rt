@@ -5,8 +5,8 @@
 //!
 //! - [`visible_groups`]: the groups of the visible versions of one object.
 //! - [`ranked_within`]: the ranked list of the visible versions of a history; [`ranked_all`]: the
-//!   same with no bound, as `ranked` gives it; [`ranked_with`]: the same from a history and a
-//!   table.
+//!   same with no bound; [`ranked_with`]: the same from a history and a table; [`ranked`]: from a
+//!   history alone.
 //! - [`showing_within`]: the largest compatible sets of positions that show, but no more than so
 //!   many. A [`Showing`] tells what positions do to each other. Each position is chosen or left
 //!   out, and a partial choice is dropped as soon as it can't hold.
@@ -31,5 +31,5 @@ pub use laws::{
     one_pass_finds_the_largest_sets_that_show, the_choices_are_the_largest_sets_that_show,
 };
 pub use objects::visible_groups;
-pub use ranking::{ranked_all, ranked_with, ranked_within};
+pub use ranking::{ranked, ranked_all, ranked_with, ranked_within};
 pub use setters::{Showing, showing_within};

@@ -1,12 +1,12 @@
 //! The largest compatible sets of an object's positions that show, listed unless they are too many.
 
-ghost use Rattle.std.specs.Prelude.{◌≡◌, ◌≤◌, ◌<◌, ◌-◌, ◌^◌, cond, not, length, IfOk};
+ghost use Rattle.std.specs.Prelude.{◌≡◌, ◌≤◌, ◌<◌, ◌-◌, ◌^◌, cond, not, IfOk};
 ghost use Rattle.std.specs.Prelude.{◌+◌, All, option_map, true};
 ghost use Rattle.std.specs.List.Sorted.{IsStrictlySortedBy};
 ghost use Rattle.std.specs.Ordering.{nat_cmp};
 ghost use Rattle.gf_ops.specs.declared.op.ObjectId.{ObjectId};
 ghost use Rattle.gf_components.specs.Components.{merged, whole};
-ghost use Rattle.gf_groups.specs.GroupedPositions.{positions_below};
+ghost use Rattle.gf_groups.specs.GroupedPositions.{positions_on};
 ghost use Rattle.gf_groups.specs.Versions.{IsMade};
 ghost use Rattle.gf_table.specs.Standing.{AreComponentsOn};
 ghost use Rattle.gf_versions.specs.declared.ranking.TheConstants.{MOST_VERSIONS};
@@ -239,7 +239,7 @@ pub(crate) fn shown_sets(
     requires made { IsMade history.now.ops object }
     requires most { most ≤ MOST_VERSIONS }
     ensures { IfOk result (λ found. IsSetListing history.now.ops
-        (positions_below history.now.ops object (length history.now.ops))
+        (positions_on history.now.ops object)
         most (option_map (λ v. v.items) found)) }
 {
     // The clause of `ops` says that the history is valid.

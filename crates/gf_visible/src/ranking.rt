@@ -11,9 +11,18 @@ use crate::objects::{visible_made, visible_or_all};
 use gf_groups::Group;
 use gf_ops::History;
 use gf_shape::{AnyShape, OutOfMemory};
-use gf_table::{GroupTable, Versions};
+use gf_table::{GroupTable, VersionedHistory, Versions};
 use gf_versions::{Ranked, ranked_of};
 use std::alloc::Global;
+
+/// The versions that [`ranked_all`] gives, of a history alone. The call first adds the history to a
+/// [`VersionedHistory`], which those who ask again keep.
+pub fn ranked(alloc: Global, history: &History) -> Result<Ranked<AnyShape>, OutOfMemory>
+    ensures { IfOk result (λ ranked. AreRanked history.now.ops ranked.items.items) }
+{
+    let versioned = VersionedHistory::of(alloc, history)?;
+    ranked_all(alloc, &versioned.versions())
+}
 
 /// The versions that [`ranked_all`] gives, of a history and a table that stands for it.
 pub fn ranked_with(
@@ -27,7 +36,7 @@ pub fn ranked_with(
     ranked_all(alloc, &Versions::new(history, table))
 }
 
-/// The visible versions of a history, topmost first, as `ranked` gives them.
+/// The visible versions of a history, topmost first.
 ///
 /// Of an object with at most 1,000 visible versions no others are listed.
 pub fn ranked_all(alloc: Global, versions: &Versions<'_>) -> Result<Ranked<AnyShape>, OutOfMemory>

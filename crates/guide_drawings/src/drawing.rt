@@ -3,8 +3,8 @@
 use gf_drawing::compile;
 use gf_fig_read::read_fig;
 use gf_fig_write::fig_bytes;
-use gf_shape::Point;
-use gf_versions::ranked;
+use gf_plane::Point;
+use gf_visible::ranked;
 use guide_kit::history;
 use std::test::Fail;
 

@@ -3,7 +3,7 @@
 use gf_drawing::compile;
 use gf_raster::{OpenGate, Window, ppm_to};
 use gf_streams::Tape;
-use gf_versions::ranked;
+use gf_visible::ranked;
 use guide_kit::history;
 use std::test::Fail;
 

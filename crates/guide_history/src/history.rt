@@ -1,9 +1,9 @@
 //! A history and its versions.
 
-use gf_groups::groups_of;
 use gf_ops::{ObjectId, OpId};
-use gf_shape::Rgb;
-use gf_versions::ranked;
+use gf_plane::Rgb;
+use gf_table::groups_of;
+use gf_visible::ranked;
 use guide_kit::history;
 use std::test::Fail;
 

@@ -1,6 +1,6 @@
 -- Worked examples of the colour of a drawing, checked by computing.
 use Rattle.std.specs.Prelude.{◌≡◌, refl, ℕ, pos, [], ◌∷◌}
-use Rattle.gf_shape.specs.declared.point.Point.{Point}
+use Rattle.gf_plane.specs.declared.point.Point.{Point}
 use Rattle.gf_shape.specs.Area.{Area}
 use Rattle.gf_shape.specs.ShapeMeaning.{rect_holds}
 use Rattle.gf_figures.specs.declared.figure.Figure.{Figure}

@@ -1,9 +1,9 @@
 -- Worked examples of the FIG grammar, checked by computing: drawings that texts read as, and faults
 -- with which some fail.
 use Rattle.std.specs.Prelude.{refl, ℕ, pos, false, List, [], ◌∷◌, ◌++◌, codes}
-use Rattle.gf_shape.specs.declared.point.Point.{Point}
+use Rattle.gf_plane.specs.declared.point.Point.{Point}
 use Rattle.gf_shape.specs.declared.outline.Outline.TheVariants.{Chain, Disc, Oval}
-use Rattle.gf_shape.specs.Reach.{is_reached}
+use Rattle.gf_plane.specs.Reach.{is_reached}
 use Rattle.gf_figures.specs.Colours.{rgb}
 use Rattle.gf_fig_tokens.specs.declared.faults.FigFault.TheVariants as fault
 use Rattle.gf_fig_tokens.specs.Layout.{object_tokens}

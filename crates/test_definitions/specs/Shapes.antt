@@ -2,7 +2,7 @@
 -- answered of points in turn.
 use Rattle.std.specs.Prelude.{◌≡◌, refl, true, false, List, [], ◌∷◌, map, ℤ}
 use Rattle.std.specs.Prelude.{pos, negsuc}
-use Rattle.gf_shape.specs.declared.point.Point.{Point}
+use Rattle.gf_plane.specs.declared.point.Point.{Point}
 use Rattle.gf_shape.specs.Edges.{side, is_between, is_on_line}
 use Rattle.gf_shape.specs.ShapeMeaning.{box_holds, circle_holds, ellipse_holds, polygon_holds}
 use Rattle.gf_shape.specs.FigureMeaning.{chain_holds, disc_holds, oval_figure_holds}

@@ -110,7 +110,7 @@ fn shapes_are_written_as_their_outlines(rt: HostRuntime) -> Result<(), Fail> {
 const FAR_OUTLINES: &[u8] =
     b"#FIG 3.2\nLandscape\nCenter\nMetric\nA4\n100.00\nSingle\n-2\n1200 2\n0 543 #ff0000\n1 3 0 0 543 543 999 -1 20 0.000 1 0.0000 -7 40 1000 1000 -7 40 993 40\n2 3 0 0 4 4 0 -1 20 0.000 0 0 -1 0 0 4\n\t -1000000 -1000000 -2000000 -1000000 -1000000 -2000000 -1000000 -1000000\n1 1 0 0 4 4 1 -1 20 0.000 1 0.0000 10000000 -10000000 10000000 1 10000000 -10000000 20000000 -9999999\n";
 
-#[tactic(auto, unfolding(gf_shape::specs::Reach::is_reached))]
+#[tactic(auto, unfolding(gf_plane::specs::Reach::is_reached))]
 fn far_chain(alloc: Global) -> Result<Outline, Fail> {
     let near = at(-1_000_000, -1_000_000);
     let points = [
@@ -123,7 +123,7 @@ fn far_chain(alloc: Global) -> Result<Outline, Fail> {
     Ok(Outline::Chain(Chain::new(false, points)))
 }
 
-#[tactic(auto, unfolding(gf_shape::specs::Reach::is_reached))]
+#[tactic(auto, unfolding(gf_plane::specs::Reach::is_reached))]
 fn far_outlines(alloc: Global) -> Result<Drawing<Outline>, Fail> {
     let mut drawing = Drawing::new(alloc);
     drawing.add_colour(543, RED)?;

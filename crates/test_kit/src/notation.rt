@@ -3,7 +3,7 @@
 
 use crate::plain;
 use gf_ops::{Change, Clock, Form, History, Ids, ObjectId, Op, OpId, Points, Start, Value};
-use gf_shape::{Point, Rgb};
+use gf_plane::{Point, Rgb};
 use std::alloc::Global;
 
 /// `2.1`: the site and its number.

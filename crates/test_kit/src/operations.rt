@@ -1,7 +1,7 @@
 //! Operations by their ids and pasts.
 
 use gf_ops::{Change, Clock, Form, Ids, ObjectId, Op, OpId, Start, Value};
-use gf_shape::{Point, Rgb};
+use gf_plane::{Point, Rgb};
 use std::alloc::Global;
 
 /// A black object of this form at the origin, on layer 0.

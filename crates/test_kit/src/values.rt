@@ -2,7 +2,7 @@
 
 ghost use Rattle.std.specs.Prelude.{◌≡◌};
 
-use gf_shape::{Point, Rgb};
+use gf_plane::{Point, Rgb};
 
 pub const RED: Rgb = Rgb { r: 255, g: 0, b: 0 };
 

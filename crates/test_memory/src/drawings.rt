@@ -13,7 +13,7 @@ use gf_ops::{Change, Clock, Form, ObjectId, OpId};
 use gf_shape::{AnyShape, OutOfMemory, Outline, Rect, Shape};
 use gf_streams::{Reel, Tape, WriteError};
 use gf_studio::StudioError;
-use gf_versions::ranked;
+use gf_visible::ranked;
 use std::alloc::Global;
 use test_kit::{EMPTY_FIG, RED, RED_BOX_FIG, at};
 use test_kit_drawings::figure;

@@ -23,7 +23,7 @@ author
 held_ops
 site_copy
 table_add may do without
-table_components may do without
+components may do without
 table_copy
 world_run
 ";
@@ -37,7 +37,7 @@ pub(crate) fn tried(alloc: Global, name: &str, marks: &mut Marks) -> Option<Came
         "held_ops" => held_ops(alloc, marks),
         "site_copy" => site_copy(alloc, marks),
         "table_add" => table_add(alloc, marks),
-        "table_components" => table_components(alloc, marks),
+        "components" => components(alloc, marks),
         "table_copy" => table_copy(alloc, marks),
         "world_run" => world_run(alloc, marks),
         _ => return None,
@@ -180,15 +180,14 @@ fn has_two(alloc: Global, history: &History, table: &GroupTable) -> bool
     )
 }
 
-fn table_components(alloc: Global, marks: &mut Marks) -> Option<Came> {
+fn components(alloc: Global, marks: &mut Marks) -> Option<Came> {
     let site = site(alloc, TWO_COLOURS)?;
-    let (history, table) = (site.history(), site.table());
     marks.begin();
-    let first = table.components(alloc, history, ObjectId(BOX));
+    let first = site.versions().components(alloc, ObjectId(BOX));
     marks.end();
     Some(match first {
         Err(OutOfMemory) => {
-            let next = table.components(alloc, history, ObjectId(BOX));
+            let next = site.versions().components(alloc, ObjectId(BOX));
             Came::after_memory(true, are_parted(next))
         }
         first => Came::first(are_parted(first)),

@@ -14,7 +14,7 @@ use gf_ops::{Change, Clock, Ids, ObjectId, Op, OpId, Value};
 use gf_shape::OutOfMemory;
 use gf_site::Site;
 use gf_take::TakeError;
-use gf_versions::ranked;
+use gf_visible::ranked;
 use std::alloc::Global;
 use test_kit::notation::change;
 
@@ -165,11 +165,11 @@ fn keeping(alloc: Global, marks: &mut Marks) -> Option<Came> {
         with: Ids::new(Vec::from_array(alloc, [BLUE]).ok()?),
     };
     marks.begin();
-    let first = gf_keep::keeping(alloc, &site, &keep);
+    let first = gf_keep::keeping(alloc, site.history(), &keep);
     marks.end();
     Some(match first {
         Err(KeepFault::OutOfMemory) => {
-            let next = gf_keep::keeping(alloc, &site, &keep);
+            let next = gf_keep::keeping(alloc, site.history(), &keep);
             Came::after_memory(true, are_keeping(next))
         }
         first => Came::first(are_keeping(first)),

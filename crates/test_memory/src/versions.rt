@@ -4,18 +4,19 @@ ghost use Rattle.gf_groups.specs.Versions.{IsVersionGroup};
 
 use crate::examples::{BOX, RED_BOX_MADE, TWO_COLOURS, are_groups, are_told, is_text, site};
 use crate::trial::{Came, Marks};
-use gf_groups::{Group, GroupFault, Groups, is_made};
+use gf_groups::{Group, GroupFault, is_made};
 use gf_inspect::VersionName;
 use gf_ops::{Change, History, ObjectId, OpId, Value};
 use gf_shape::{AnyShape, Bounds, OutOfMemory, Shape};
 use gf_status::ObjectStatus;
+use gf_table::VersionedHistory;
 use gf_versions::{Placed, Ranked, Version};
 use std::alloc::Global;
 use test_kit::{RED, at};
 
 pub(crate) const NAMES: &str = "
 groups_of may do without
-all_groups may do without
+versioned may do without
 table_groups may do without
 visible_groups may do without
 settle
@@ -36,7 +37,7 @@ top_line
 pub(crate) fn tried(alloc: Global, name: &str, marks: &mut Marks) -> Option<Came> {
     let came = match name {
         "groups_of" => groups_of(alloc, marks),
-        "all_groups" => all_groups(alloc, marks),
+        "versioned" => versioned(alloc, marks),
         "table_groups" => table_groups(alloc, marks),
         "visible_groups" => visible_groups(alloc, marks),
         "settle" => settle(alloc, marks),
@@ -68,34 +69,37 @@ const THEIR_GROUPS: &str = "[ 1.1 1.2 3.1 ][ 1.1 2.1 ]";
 fn groups_of(alloc: Global, marks: &mut Marks) -> Option<Came> {
     let site = site(alloc, THREE_SETTERS)?;
     marks.begin();
-    let first = gf_groups::groups_of(alloc, site.history(), ObjectId(BOX));
+    let first = gf_table::groups_of(alloc, site.history(), ObjectId(BOX));
     marks.end();
     Some(match first {
         Err(GroupFault::OutOfMemory) => {
-            let next = gf_groups::groups_of(alloc, site.history(), ObjectId(BOX));
+            let next = gf_table::groups_of(alloc, site.history(), ObjectId(BOX));
             Came::after_memory(true, are_groups(alloc, next, THEIR_GROUPS))
         }
         first => Came::first(are_groups(alloc, first, THEIR_GROUPS)),
     })
 }
 
-fn all_groups(alloc: Global, marks: &mut Marks) -> Option<Came> {
+fn versioned(alloc: Global, marks: &mut Marks) -> Option<Came> {
     let site = site(alloc, THREE_SETTERS)?;
     marks.begin();
-    let first = gf_groups::all_groups(alloc, site.history());
+    let first = VersionedHistory::of(alloc, site.history());
     marks.end();
     Some(match first {
         Err(OutOfMemory) => {
-            let next = gf_groups::all_groups(alloc, site.history());
-            Came::after_memory(true, are_all_groups(alloc, next))
+            let next = VersionedHistory::of(alloc, site.history());
+            Came::after_memory(true, are_versioned(alloc, next))
         }
-        first => Came::first(are_all_groups(alloc, first)),
+        first => Came::first(are_versioned(alloc, first)),
     })
 }
 
-fn are_all_groups(alloc: Global, answer: Result<Groups, OutOfMemory>) -> bool {
+fn are_versioned(alloc: Global, answer: Result<VersionedHistory, OutOfMemory>) -> bool {
     match answer {
-        Ok(groups) => are_told(alloc, groups.as_slice(), THEIR_GROUPS),
+        Ok(versioned) => {
+            let groups = versioned.versions().groups(alloc, ObjectId(BOX));
+            are_groups(alloc, groups, THEIR_GROUPS)
+        }
         Err(OutOfMemory) => false,
     }
 }
@@ -144,13 +148,13 @@ fn settle(alloc: Global, marks: &mut Marks) -> Option<Came> {
     settle_first(alloc, marks, site.history()).ok()?
 }
 
-/// Settles the first group of a history.
+/// Settles the first group of the box.
 fn settle_first(
     alloc: Global,
     marks: &mut Marks,
     history: &History,
-) -> Result<Option<Came>, OutOfMemory> {
-    let groups = gf_groups::all_groups(alloc, history)?;
+) -> Result<Option<Came>, GroupFault> {
+    let groups = gf_table::groups_of(alloc, history, ObjectId(BOX))?;
     let groups = groups.as_slice();
     if groups.len() > 0 {
         Ok(settle_group(alloc, marks, history, &groups[0]))
@@ -192,11 +196,11 @@ fn is_settled(alloc: Global, answer: Result<Version, OutOfMemory>) -> bool {
 fn ranked(alloc: Global, marks: &mut Marks) -> Option<Came> {
     let site = site(alloc, RED_BOX_MADE)?;
     marks.begin();
-    let first = gf_versions::ranked(alloc, site.history());
+    let first = gf_visible::ranked(alloc, site.history());
     marks.end();
     Some(match first {
         Err(OutOfMemory) => {
-            let next = gf_versions::ranked(alloc, site.history());
+            let next = gf_visible::ranked(alloc, site.history());
             Came::after_memory(true, is_red_box(next.ok()))
         }
         first => Came::first(is_red_box(first.ok())),

@@ -67,7 +67,7 @@ fn ellipses_hold_and_move(rt: HostRuntime) -> Result<(), Fail> {
     answers(rt.alloc(), ROWS)
 }
 
-#[tactic(auto, unfolding(gf_shape::specs::Reach::is_reached))]
+#[tactic(auto, unfolding(gf_plane::specs::Reach::is_reached))]
 #[test]
 fn ovals_tell_what_they_were_made_of(rt: HostRuntime) {
     let oval = Oval::new(at(10_000_000, 0), 10_000_000, 1);

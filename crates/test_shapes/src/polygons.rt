@@ -63,7 +63,7 @@ fn polygons_hold_and_move(rt: HostRuntime) -> Result<(), Fail> {
     answers(rt.alloc(), ROWS)
 }
 
-#[tactic(auto, unfolding(gf_shape::specs::Reach::is_reached))]
+#[tactic(auto, unfolding(gf_plane::specs::Reach::is_reached))]
 #[test]
 fn chains_tell_what_they_were_made_of(rt: HostRuntime) -> Result<(), Fail> {
     let corners = [at(0, 0), at(-1_000_000, 0), at(0, -1_000_000), at(0, 0)];

@@ -26,8 +26,6 @@ mod small_aims;
 #[cfg(test)]
 mod small_histories;
 #[cfg(test)]
-mod small_tables;
-#[cfg(test)]
 mod table_commands;
 #[cfg(test)]
 mod table_script;

@@ -1,9 +1,8 @@
-//! All histories of few changes with aims by two sites, in each order that they may have. The
-//! groups that a table lists are compared with the plain ones.
+//! All histories of few changes with aims by two sites, in each order that they may have, against
+//! the definition of versions.
 
 use crate::rounds::add;
-use crate::small_histories::{BOX, holds};
-use crate::small_tables::{agrees, value};
+use crate::small_histories::{BOX, agrees, holds, value};
 use gf_ops::{Change, Clock, Form, History, Ids, ObjectId, Op, OpId};
 use gf_site::Site;
 use std::alloc::Global;
@@ -85,8 +84,8 @@ fn ends(alloc: Global, site: &Site) -> Result<u32, Fail> {
     let mut count = 0u32;
     for code in 0..CODES {
         if let Some(next) = with(alloc, site, code) {
-            if !agrees(alloc, &next) {
-                return Err(Fail::new("a table lists other groups than the plain ones"));
+            if agrees(alloc, next.history()) != Some(true) {
+                return Err(Fail::new("a history has other groups than versions"));
             }
             count = count.saturating_add(1);
         }
@@ -114,7 +113,9 @@ fn counted(alloc: Global, codes: &[u32]) -> Result<Option<(u32, u32)>, Fail> {
 }
 
 #[test]
-fn tables_of_small_histories_with_aims_list_the_plain_groups(rt: HostRuntime) -> Result<(), Fail> {
+fn small_histories_with_aims_have_the_versions_of_the_definition(
+    rt: HostRuntime,
+) -> Result<(), Fail> {
     let alloc = rt.alloc();
     // Each of two sites gives one of three values, and aims at the box or at nothing.
     assert_eq!(rt; counted(alloc, &[])?, Some((12, 324)));

@@ -1,8 +1,9 @@
-//! All histories of at most four changes of a box by two sites, against the definition of versions.
+//! All histories of at most four changes of a box by two sites, in each order that they may have,
+//! against the definition of versions.
 
 use crate::version_commands::text_of;
-use gf_groups::groups_of;
-use gf_ops::{AddFault, Form, History, ObjectId, Op, OpId, Value, direct_conflict};
+use gf_ops::{AddFault, Form, History, ObjectId, Op, OpId, Value, conflicts};
+use gf_table::groups_of;
 use std::alloc::Global;
 use std::test::Fail;
 use test_kit::notation::push_ids;
@@ -10,23 +11,28 @@ use test_kit::{BLUE, GREEN, changed, create};
 
 pub(crate) const BOX: OpId = OpId { site: 1, seq: 1 };
 
-/// The change of the box 1.1 with a code below 20: either site gives it one of two colours. The
+/// A colour or a layer.
+pub(crate) fn value(code: u32) -> Value {
+    match code {
+        0 => Value::Colour(BLUE),
+        1 => Value::Colour(GREEN),
+        _ => Value::Layer(3),
+    }
+}
+
+/// The change of the box 1.1 with a code below 30: either site gives it one of three values. The
 /// change knows a number of operations of the other site.
 fn coded(alloc: Global, code: u32, history: &History) -> Op {
-    let colour = if code / 2 % 2 == 0 { BLUE } else { GREEN };
-    let known = code / 4 % 5;
-    let (site, own) = if code % 2 == 0 {
-        (1, history.count(1))
+    let known = code / 2 % 5;
+    let first = history.count(1);
+    let second = history.count(2);
+    let (site, own, past) = if code % 2 == 0 {
+        (1, first, [first, known, 0, 0, 0, 0, 0, 0])
     } else {
-        (2, history.count(2))
-    };
-    let past = if site == 1 {
-        [own, known, 0, 0, 0, 0, 0, 0]
-    } else {
-        [known, own, 0, 0, 0, 0, 0, 0]
+        (2, second, [known, second, 0, 0, 0, 0, 0, 0])
     };
     let seq = own.saturating_add(1);
-    changed(alloc, OpId { site, seq }, past, BOX, Value::Colour(colour))
+    changed(alloc, OpId { site, seq }, past, BOX, value(code / 10))
 }
 
 /// Adds an operation, if it is valid.
@@ -51,8 +57,8 @@ fn small(alloc: Global, codes: &[u32]) -> Result<Option<History>, AddFault> {
     Ok(Some(history))
 }
 
-fn clash(a: &Op, b: &Op) -> bool {
-    a.in_range() && b.in_range() && direct_conflict(a, b)
+fn in_conflict(history: &History, a: &Op, b: &Op) -> bool {
+    a.in_range() && b.in_range() && conflicts(history, a, b)
 }
 
 /// Whether the set has the operation with this index.
@@ -60,20 +66,26 @@ pub(crate) fn holds(set: u32, index: usize) -> bool {
     (set >> (index % 32)) & 1 == 1
 }
 
-/// Whether the operation conflicts with one of the set.
-fn conflicts_in(ops: &[Op], set: u32, op: &Op) -> bool {
-    for (index, member) in ops.iter().enumerate() {
-        if holds(set, index) && clash(op, member) {
-            return true;
+/// For each operation of a history, the set of those that conflict with it.
+fn rivals(alloc: Global, history: &History) -> Option<Vec<u32>> {
+    let ops = history.ops();
+    let mut rivals = Vec::new(alloc);
+    for op in ops {
+        let mut set = 0;
+        for (index, other) in ops.iter().enumerate() {
+            if in_conflict(history, op, other) {
+                set |= 1 << (index % 32);
+            }
         }
+        rivals.push(set).ok()?;
     }
-    false
+    Some(rivals)
 }
 
 /// Whether the set has exactly the operations that conflict with none of it.
-fn is_version(ops: &[Op], set: u32) -> bool {
-    for (index, op) in ops.iter().enumerate() {
-        if holds(set, index) == conflicts_in(ops, set, op) {
+fn is_version(rivals: &[u32], set: u32) -> bool {
+    for (index, rivals) in rivals.iter().enumerate() {
+        if holds(set, index) == (rivals & set != 0) {
             return false;
         }
     }
@@ -96,10 +108,12 @@ fn version(alloc: Global, ops: &[Op], set: u32) -> Option<String> {
 
 /// How many versions the box has, found by trying all sets of at most five operations. Nothing
 /// where a version is missing in the text.
-fn found(alloc: Global, ops: &[Op], text: &str) -> Option<usize> {
+fn found(alloc: Global, history: &History, text: &str) -> Option<usize> {
+    let ops = history.ops();
+    let rivals = rivals(alloc, history)?;
     let mut count: usize = 0;
     for set in 0..32 {
-        if set < 1 << (ops.len() % 32) && is_version(ops, set) {
+        if set < 1 << (ops.len() % 32) && is_version(&rivals, set) {
             if !text.contains(version(alloc, ops, set)?.as_str()) {
                 return None;
             }
@@ -110,10 +124,10 @@ fn found(alloc: Global, ops: &[Op], text: &str) -> Option<usize> {
 }
 
 /// Whether the groups of the box are exactly its versions.
-fn agrees(alloc: Global, history: &History) -> Option<bool> {
+pub(crate) fn agrees(alloc: Global, history: &History) -> Option<bool> {
     let groups = groups_of(alloc, history, ObjectId(BOX)).ok()?;
     let text = text_of(alloc, &groups)?;
-    let found = found(alloc, history.ops(), text.as_str());
+    let found = found(alloc, history, text.as_str());
     Some(found == Some(groups.as_slice().len()))
 }
 
@@ -134,19 +148,19 @@ fn tried(alloc: Global, codes: &[u32]) -> Result<usize, Fail> {
 fn small_histories_have_the_versions_of_the_definition(rt: HostRuntime) -> Result<(), Fail> {
     let alloc = rt.alloc();
     let mut most = 0;
-    for first in 0..20 {
+    for first in 0..30 {
         if tried(alloc, &[first])? == 0 {
             continue;
         }
-        for second in 0..20 {
+        for second in 0..30 {
             if tried(alloc, &[first, second])? == 0 {
                 continue;
             }
-            for third in 0..20 {
+            for third in 0..30 {
                 if tried(alloc, &[first, second, third])? == 0 {
                     continue;
                 }
-                for fourth in 0..20 {
+                for fourth in 0..30 {
                     most = most.max(tried(alloc, &[first, second, third, fourth])?);
                 }
             }

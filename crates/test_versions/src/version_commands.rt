@@ -1,11 +1,13 @@
 //! Commands about the versions of a history: its groups, how they are ranked, what they look like,
 //! and aims at them.
 
-use gf_groups::{GroupFault, Groups, all_groups, groups_of};
+use gf_groups::{GroupFault, Groups};
 use gf_inspect::aimed_at;
 use gf_ops::{Change, Form, History, ObjectId, OpId};
 use gf_shape::{AnyShape, Bounds, OutOfMemory, Point, Rgb, Shape};
-use gf_versions::{Placed, Ranked, Version, VersionKey, ranked, settle};
+use gf_table::{VersionedHistory, groups_of};
+use gf_versions::{Placed, Ranked, Version, VersionKey, settle};
+use gf_visible::ranked;
 use std::alloc::Global;
 use test_kit::notation::{change, id, point, push_ids, yes};
 
@@ -34,15 +36,35 @@ pub(crate) fn versions(alloc: Global, history: &History, text: &str) -> Option<S
     format!(in alloc; "{}", groups.as_slice().len()).ok()
 }
 
+/// The groups of each object, in the order of the creations.
+fn all_groups(alloc: Global, history: &History) -> Option<Vec<Groups>> {
+    let versioned = VersionedHistory::of(alloc, history).ok()?;
+    let mut found = Vec::new(alloc);
+    for op in history.ops() {
+        if let Change::Create(_) = op.change {
+            let groups = versioned.versions().groups(alloc, ObjectId(op.id)).ok()?;
+            found.push(groups).ok()?;
+        }
+    }
+    Some(found)
+}
+
 /// The groups of all objects.
 pub(crate) fn all(alloc: Global, history: &History) -> Option<String> {
-    text_of(alloc, &all_groups(alloc, history).ok()?)
+    let mut text = String::new(alloc);
+    for groups in &all_groups(alloc, history)? {
+        push_groups(alloc, &mut text, groups)?;
+    }
+    Some(text)
 }
 
 /// How many groups all objects have.
 pub(crate) fn total(alloc: Global, history: &History) -> Option<String> {
-    let groups = all_groups(alloc, history).ok()?;
-    format!(in alloc; "{}", groups.as_slice().len()).ok()
+    let mut count: usize = 0;
+    for groups in &all_groups(alloc, history)? {
+        count = count.saturating_add(groups.as_slice().len());
+    }
+    format!(in alloc; "{count}").ok()
 }
 
 /// What tells the first ids from those behind `against`.
@@ -68,10 +90,15 @@ fn ids(alloc: Global, text: &str) -> Option<Vec<OpId>> {
 /// Each group in brackets, by the ids of its operations.
 pub(crate) fn text_of(alloc: Global, groups: &Groups) -> Option<String> {
     let mut text = String::new(alloc);
-    for group in groups.as_slice() {
-        push_ids(alloc, &mut text, group.ops.as_slice())?;
-    }
+    push_groups(alloc, &mut text, groups)?;
     Some(text)
+}
+
+fn push_groups(alloc: Global, text: &mut String, groups: &Groups) -> Option<()> {
+    for group in groups.as_slice() {
+        push_ids(alloc, text, group.ops.as_slice())?;
+    }
+    Some(())
 }
 
 /// The ranked versions by object and operations, topmost first, each above the next.
@@ -149,18 +176,28 @@ pub(crate) fn aimed(alloc: Global, history: &History, text: &str) -> Option<Stri
     }
 }
 
-/// The settled values of the first group.
+/// The settled values of the first group of the object that was made first.
 pub(crate) fn settled(alloc: Global, history: &History) -> Option<String> {
-    settled_text(alloc, &first_version(alloc, history).ok()??)
+    let maker = history.ops().first()?;
+    settled_text(
+        alloc,
+        &first_version(alloc, history, ObjectId(maker.id)).ok()??,
+    )
 }
 
-fn first_version(alloc: Global, history: &History) -> Result<Option<Version>, OutOfMemory> {
-    let groups = all_groups(alloc, history)?;
+fn first_version(
+    alloc: Global,
+    history: &History,
+    object: ObjectId,
+) -> Result<Option<Version>, GroupFault> {
+    let groups = groups_of(alloc, history, object)?;
     let groups = groups.as_slice();
-    if groups.len() > 0 {
-        Ok(Some(settle(alloc, history, &groups[0])?))
-    } else {
-        Ok(None)
+    if groups.len() == 0 {
+        return Ok(None);
+    }
+    match settle(alloc, history, &groups[0]) {
+        Ok(version) => Ok(Some(version)),
+        Err(OutOfMemory) => Err(GroupFault::OutOfMemory),
     }
 }
 

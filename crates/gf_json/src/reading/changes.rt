@@ -19,7 +19,7 @@ use crate::reading::keys::{is_word, tells, word_at};
 use crate::reading::points::points;
 use crate::reading::values::{both, level, point, size, truth};
 use gf_ops::{Change, Form, Ids, Start};
-use gf_shape::Rgb;
+use gf_plane::Rgb;
 use serde_json::Value;
 use std::alloc::Global;
 

@@ -6,8 +6,7 @@ ghost use Rattle.gf_ops.specs.Limits.{is_colour};
 ghost use Rattle.gf_json.specs.LineColours.{hex_colour};
 
 use crate::LineError;
-use gf_digits::rgb_of_hex;
-use gf_shape::Rgb;
+use gf_plane::{Rgb, rgb_of_hex};
 use serde_json::Value;
 
 pub(crate) fn hex_colour(value: &Value) -> Result<Rgb, LineError>

@@ -15,7 +15,7 @@ use crate::reading::colours::hex_colour;
 use crate::reading::points::points;
 use crate::reading::values::{clock, elements, level, name, natural, point, radius, size, truth};
 use gf_ops::{Clock, Form, Ids, ObjectId, OpId};
-use gf_shape::{Point, Rgb};
+use gf_plane::{Point, Rgb};
 use serde_json::Value;
 use std::alloc::Global;
 

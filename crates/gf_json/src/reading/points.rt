@@ -10,7 +10,7 @@ ghost use Rattle.gf_json.specs.CheckedPoints.{checked};
 use crate::LineError;
 use crate::reading::values::{both, elements, point};
 use gf_ops::Points;
-use gf_shape::Point;
+use gf_plane::Point;
 use serde_json::Value;
 use std::alloc::{AllocError, Global};
 

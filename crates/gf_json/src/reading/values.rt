@@ -11,7 +11,7 @@ ghost use Rattle.gf_json.specs.LineAims.{numbers};
 
 use crate::LineError;
 use gf_ops::{Clock, OpId};
-use gf_shape::Point;
+use gf_plane::Point;
 use serde_json::Value;
 
 /// Both of two parts. Field in either comes before Range in either.

@@ -1,14 +1,14 @@
 //! The values of a written line.
 
 ghost use Rattle.std.specs.Prelude.{◌≡◌, IfOk, OnOk, length, map, string_bytes};
-ghost use Rattle.gf_digits.specs.HexDigits.{hex_rgb};
+ghost use Rattle.gf_plane.specs.HexDigits.{hex_rgb};
 ghost use Rattle.serde_json.specs.View.{view};
 ghost use Rattle.gf_json.specs.WrittenValues.{natural_data, pair_data, name_data, ids_data};
 ghost use Rattle.gf_json.specs.WrittenValues.{clock_data, point_data, points_data, size_data};
 ghost use Rattle.gf_json.specs.WrittenValues.{colour_data, value_data};
 
 use gf_ops::{Clock, Ids, OpId, Points};
-use gf_shape::{Point, Rgb};
+use gf_plane::{Point, Rgb};
 use serde_json::{Value, json};
 use std::alloc::{AllocError, Global};
 

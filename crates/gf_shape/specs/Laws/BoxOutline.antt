@@ -8,7 +8,7 @@ use Rattle.std.proofs.Math.Bool.{and-false, or-false}
 use Rattle.std.proofs.Math.IntN.{*ℤ-zero, zero-*ℤ}
 use Rattle.std.proofs.lemmas.Int.{ints, by_lt_z}
 use Rattle.std.proofs.lemmas.Bool.{cases_Bool}
-use Rattle.gf_shape.specs.declared.point.Point.{Point}
+use Rattle.gf_plane.specs.declared.point.Point.{Point}
 use Rattle.gf_shape.specs.Area.{Area, corners_again}
 use Rattle.gf_shape.specs.Edges.{side, is_on_line, is_between, is_on_edge, crosses_left}
 use Rattle.gf_shape.specs.ShapeMeaning.{rect_holds}

@@ -7,13 +7,13 @@ use Rattle.std.proofs.Math.IntN.{+ℤ-neg_ℤ_cancel, -ℤ-+ℤ_cancel}
 use Rattle.std.proofs.lemmas.Int.{ints}
 use Rattle.std.proofs.lemmas.List.{map-append}
 use Rattle.std.proofs.lemmas.List.Sums.{sum_by-cons}
-use Rattle.gf_shape.specs.declared.point.Point.{Point}
+use Rattle.gf_plane.specs.declared.point.Point.{Point}
 use Rattle.gf_shape.specs.Edges.{Edge, side, is_between, is_on_line, is_on_edge, crosses_left}
 use Rattle.gf_shape.specs.Edges.{crosses_right}
 use Rattle.gf_shape.specs.FigureMeaning.{chain_holds}
-use Rattle.gf_shape.specs.Moving.{minus}
+use Rattle.gf_plane.specs.Moving.{minus}
 use Rattle.gf_shape.specs.ShapeMeaning.{polygon_holds}
-use Rattle.gf_shape.specs.Moving.{plus}
+use Rattle.gf_plane.specs.Moving.{plus}
 use Rattle.gf_shape.specs.ShapeMoves.{points_moved}
 
 pub gap_same : (a : ℤ) → a -ℤ a ≡ pos 0

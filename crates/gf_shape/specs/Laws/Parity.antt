@@ -8,7 +8,7 @@ use Rattle.std.proofs.Common.{arith, ap}
 use Rattle.std.proofs.lemmas.Bool.Decides.{nat_tests}
 use Rattle.std.proofs.lemmas.Bool.{or_parts}
 use Rattle.std.proofs.lemmas.List.Sums.{sum_by-cons}
-use Rattle.gf_shape.specs.declared.point.Point.{Point}
+use Rattle.gf_plane.specs.declared.point.Point.{Point}
 use Rattle.gf_shape.specs.Edges.{side, is_on_edge, crosses_left, crosses_right}
 use Rattle.gf_shape.specs.FigureMeaning.{chain_holds}
 use Rattle.gf_shape.specs.ShapeMeaning.{polygon_holds}

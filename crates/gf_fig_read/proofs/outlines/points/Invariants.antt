@@ -1,6 +1,6 @@
 use Rattle.std.proofs.Common.{◌≡◌, ◌-◌, length}
 use Rattle.std.specs.Prelude.{All, IsTrue}
-use Rattle.gf_shape.specs.Reach.{is_within_reach}
+use Rattle.gf_plane.specs.Reach.{is_within_reach}
 use Rattle.gf_fig_tokens.specs.Fields.{points}
 use Rattle.gf_fig_read.proofs.Loop.{with_front}
 use Rattle.gf_fig_read.proofs.outlines.points.Given as goal

@@ -1,7 +1,7 @@
 use Rattle.std.proofs.Common.{arith, rules, ◌<◌, length, ℕ}
 use Rattle.std.proofs.lemmas.Grind.{common_steps}
-use Rattle.gf_shape.specs.declared.colour.Rgb.{Rgb}
-use Rattle.gf_shape.specs.ColourBytes.{HasBytes}
+use Rattle.gf_plane.specs.declared.colour.Rgb.{Rgb}
+use Rattle.gf_plane.specs.ColourBytes.{HasBytes}
 use Rattle.gf_fig_write.proofs.TableLemmas.{flat_map_next}
 use Rattle.gf_fig_write.proofs.GatheringLemmas.{one_entry_more}
 use Rattle.gf_fig_write.proofs.colours.push_table.Goals as goal

@@ -1,6 +1,6 @@
 use Rattle.std.proofs.Common.{◌≡◌, ◌++◌, take}
 use Rattle.std.specs.Prelude.{flat_map, All}
-use Rattle.gf_shape.specs.ColourBytes.{HasBytes}
+use Rattle.gf_plane.specs.ColourBytes.{HasBytes}
 use Rattle.gf_fig_write.specs.FigText.{colour_line}
 use Rattle.gf_fig_write.proofs.colours.push_table.Given as goal
 

@@ -1,5 +1,5 @@
 use Rattle.std.proofs.Common.{pos}
-use Rattle.gf_shape.specs.declared.point.Point.{Point}
+use Rattle.gf_plane.specs.declared.point.Point.{Point}
 use Rattle.gf_import.proofs.SeenLemmas.{seen_more, seen_all}
 use Rattle.gf_import.proofs.making.all_seen.Goals as goal
 

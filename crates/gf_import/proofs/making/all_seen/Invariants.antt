@@ -1,5 +1,5 @@
 use Rattle.std.proofs.Common.{◌≡◌, take, map}
-use Rattle.gf_shape.specs.Moving.{minus}
+use Rattle.gf_plane.specs.Moving.{minus}
 use Rattle.gf_import.proofs.making.all_seen.Given as goal
 
 abbrev pub invariant-loop-p : goal.invariant-loop-p

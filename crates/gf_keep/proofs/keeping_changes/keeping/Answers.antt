@@ -5,7 +5,7 @@ use Rattle.gf_keep.proofs.KeptGroupLemmas.{of_object}
 use Rattle.gf_keep.proofs.keeping_changes.keeping.Goals as goal
 
 pub changes_of-requires : goal.changes_of-requires
-changes_of-requires g c =
+changes_of-requires c =
     subst (λ (gs : List Group). AreOfObject c.args.keep.now.object gs) (sym c.deref.ensures.value)
-    (of_object c.args.site.now.ops c.args.keep.now c.in_ok-kept.kept.items
+    (of_object c.args.history.now.ops c.args.keep.now c.in_ok-kept.kept.items
     c.in_ok-kept.ensures.kept)

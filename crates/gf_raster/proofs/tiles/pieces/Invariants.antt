@@ -1,6 +1,6 @@
 use Rattle.std.proofs.Common.{◌≡◌, ◌*◌, min, length}
-use Rattle.gf_shape.specs.declared.colour.Rgb.{Rgb}
-use Rattle.gf_shape.specs.declared.point.Point.{Point}
+use Rattle.gf_plane.specs.declared.colour.Rgb.{Rgb}
+use Rattle.gf_plane.specs.declared.point.Point.{Point}
 use Rattle.gf_raster.specs.Rows.{ShowsRows}
 use Rattle.gf_raster.specs.Columns.{ArePieces}
 use Rattle.gf_raster.proofs.tiles.pieces.Given as goal

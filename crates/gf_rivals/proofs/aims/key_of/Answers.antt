@@ -1,7 +1,8 @@
 use Rattle.std.proofs.Common.{Some, ap, sym, ◌∙◌}
 use Rattle.gf_rivals.proofs.NamingLemmas.{made_unnamed, named_from, numbered_from, own_site}
 use Rattle.gf_rivals.proofs.NamingLemmas.{setter_key}
-use Rattle.gf_rivals.proofs.KeyLemmas.{contained_at, some_one}
+use Rattle.gf_base.proofs.PositionLemmas.{contained_at}
+use Rattle.gf_rivals.proofs.KeyLemmas.{some_one}
 use Rattle.gf_rivals.specs.SetterIndexes.{key_of}
 use Rattle.gf_rivals.proofs.aims.key_of.Goals as goal
 

@@ -1,5 +1,5 @@
 use Rattle.std.proofs.Common.{ℕ, drop}
-use Rattle.gf_shape.specs.declared.colour.Rgb.{Rgb}
+use Rattle.gf_plane.specs.declared.colour.Rgb.{Rgb}
 use Rattle.gf_scanline.specs.Strips.{IsPainted}
 use Rattle.gf_scanline.specs.Layers.{row_colours}
 use Rattle.gf_scanline.specs.Pieces.{layers_of}

@@ -1,7 +1,7 @@
 use Rattle.std.proofs.Common.{ℕ, drop}
 use Rattle.std.specs.List.{list_any}
 use Rattle.gf_spans.specs.Spans.{is_in_span}
-use Rattle.gf_shape.specs.declared.colour.Rgb.{Rgb}
+use Rattle.gf_plane.specs.declared.colour.Rgb.{Rgb}
 use Rattle.gf_scanline.specs.Strips.{IsPainted, over}
 use Rattle.gf_scanline.specs.Windows.{column}
 use Rattle.gf_scanline.proofs.row.paint_spans.Given as goal

@@ -1,5 +1,5 @@
 use Rattle.std.proofs.Common.{ℕ, ◌≤◌, ◌<◌, ◌++◌, List, get_or}
-use Rattle.gf_shape.specs.declared.colour.Rgb.{Rgb}
+use Rattle.gf_plane.specs.declared.colour.Rgb.{Rgb}
 use Rattle.gf_scanline.specs.declared.segment.Segment.{Segment}
 use Rattle.gf_scanline.specs.declared.stroke.Stroke.{Stroke}
 use Rattle.gf_scanline.specs.Segments.{AreSegmentsOf, views}

@@ -1,8 +1,8 @@
 use Rattle.std.proofs.Common.{refl, IsTrue, pos}
 use Rattle.std.proofs.lemmas.Int.{to_z-of_z}
 use Rattle.std.proofs.lemmas.List.Elements.{All-get_or}
-use Rattle.gf_shape.specs.declared.point.Point.{Point}
-use Rattle.gf_shape.specs.Reach.{is_within_reach}
+use Rattle.gf_plane.specs.declared.point.Point.{Point}
+use Rattle.gf_plane.specs.Reach.{is_within_reach}
 use Rattle.gf_shape.specs.RowParts.{contacts_along, contacts_of, crossings_along, crossings_of}
 use Rattle.gf_shape.proofs.RowPaths.{gathers_all, gathers_more}
 use Rattle.gf_shape.proofs.passing.meet_along.Goals as goal

@@ -1,5 +1,5 @@
 use Rattle.std.proofs.Common.{◌≡◌, ◌++◌, drop, IsTrue}
-use Rattle.gf_shape.specs.Reach.{is_within_reach}
+use Rattle.gf_plane.specs.Reach.{is_within_reach}
 use Rattle.gf_shape.specs.RowParts.{contacts_along, crossings_along}
 use Rattle.gf_shape.proofs.passing.meet_along.Given as goal
 

@@ -1,5 +1,5 @@
 use Rattle.std.proofs.Common.{pos}
-use Rattle.gf_shape.specs.declared.point.Point.{Point}
+use Rattle.gf_plane.specs.declared.point.Point.{Point}
 use Rattle.gf_shape.proofs.RingLemmas.{movable_at, moved_all, moved_more}
 use Rattle.gf_shape.proofs.points.all_moved.Goals as goal
 

@@ -8,11 +8,11 @@ returns-clause-is c = rw (c.count.ensures, c.clock_of.ensures) refl
 pub returns-clause-in_range : goal.returns-clause-in_range
 returns-clause-in_range c =
     rw (c.count.ensures, c.clock_of.ensures)
-    (authored_in_range c.args.history.now.ops c.requires.accepted c.ops.ensures.valid c.args.site
+    (authored_in_range c.args.history.now.ops c.ops.ensures.accepted c.ops.ensures.valid c.args.site
     c.args.change c.requires.site c.requires.room c.requires.in_range)
 
 pub returns-clause-next : goal.returns-clause-next
 returns-clause-next c =
     rw (c.count.ensures, c.clock_of.ensures)
-    (authored_next c.args.history.now.ops c.requires.accepted c.ops.ensures.valid c.args.site
+    (authored_next c.args.history.now.ops c.ops.ensures.accepted c.ops.ensures.valid c.args.site
     c.args.change c.requires.site)

@@ -1,6 +1,6 @@
 use Rattle.std.proofs.Common.{subst, sym}
 use Rattle.std.proofs.lemmas.Result.{err_from_is_err_and}
-use Rattle.gf_studio.specs.RefusedParts.{IsBetween}
+use Rattle.gf_run.specs.RefusedRuns.{IsBetween}
 use Rattle.gf_studio.specs.RefusedRuns.{RefusesLines}
 use Rattle.gf_studio.proofs.DrawnLemmas.{history_refused}
 use Rattle.gf_studio.proofs.drawings.draw.Goals as goal

@@ -6,9 +6,8 @@ use Rattle.std.proofs.lemmas.Result.{on_ok_weaker, on_err_weaker}
 use Rattle.gf_ops.specs.declared.op.ObjectId.{ObjectId}
 use Rattle.gf_ops.specs.declared.change.Change.TheVariants.{Create}
 use Rattle.gf_ops.specs.Attribute.{changed_object, made_kind}
-use Rattle.gf_groups.specs.Parting.{object_cmp}
 use Rattle.gf_table.specs.ObjectState.{ObjectState, made}
-use Rattle.gf_table.specs.Standing.{IsStateOf, state_of}
+use Rattle.gf_table.specs.Standing.{IsStateOf, object_cmp, state_of}
 use Rattle.gf_table.proofs.StateLemmas.{state_made}
 use Rattle.gf_table.proofs.StandsLemmas.{absent, none_before, some_before, stands_after, there}
 use Rattle.gf_table.proofs.table.add_to.Goals as goal

@@ -27,7 +27,7 @@ add-requires-clause-accepted c =
     let i = c.loop-op.op-index in
     let a = c.op-item.result in
     let valid = subst IsValid (sym c.ops-ops.ensures.ops) c.ops-ops.ensures.valid in
-    let run = subst AreAccepted (sym c.ops-ops.ensures.ops) c.requires.accepted in
+    let run = subst AreAccepted (sym c.ops-ops.ensures.ops) c.ops-ops.ensures.accepted in
     let within : i < length ops = search (rules, arith) in
     let reach = c.reach-reach.result in
     let counted : is_counted reach a ≡ true = sym c.is_counted.ensures ∙ c.if-is_counted.true in
@@ -70,7 +70,7 @@ returns-clause-base c =
     let ops = c.ops-ops.result.now in
     let reach = c.reach-reach.result in
     let valid = subst IsValid (sym c.ops-ops.ensures.ops) c.ops-ops.ensures.valid in
-    let run = subst AreAccepted (sym c.ops-ops.ensures.ops) c.requires.accepted in
+    let run = subst AreAccepted (sym c.ops-ops.ensures.ops) c.ops-ops.ensures.accepted in
     let all : length ops ≤ c.loop-op.op-index = search (rules, arith) in
     let base : c.loop-op.base.ops ≡ filter (is_counted reach) ops =
     ap (λ (x : SiteState). x.ops) c.loop-op.invariant

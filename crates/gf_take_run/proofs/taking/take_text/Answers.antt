@@ -1,6 +1,6 @@
 use Rattle.std.proofs.Common.{refl}
 use Rattle.std.proofs.lemmas.Result.{err_from_is_err_and}
-use Rattle.gf_studio.specs.declared.studio_error.StudioError.TheVariants as studio
+use Rattle.gf_run.specs.declared.studio_error.StudioError.TheVariants as studio
 use Rattle.gf_take_run.specs.TakeRun.{input, no_drawing}
 use Rattle.gf_take_run.proofs.TakeLemmas.{text_refused, text_taken}
 use Rattle.gf_take_run.proofs.taking.take_text.Goals as goal

@@ -1,6 +1,6 @@
-use Rattle.std.proofs.Common.{length, sym, subst}
+use Rattle.std.proofs.Common.{sym, subst}
 use Rattle.std.proofs.lemmas.List.{length-map}
-use Rattle.gf_groups.specs.GroupedPositions.{positions_below}
+use Rattle.gf_groups.specs.GroupedPositions.{positions_on}
 use Rattle.gf_groups.specs.Versions.{IsMade}
 use Rattle.gf_table.specs.Standing.{AreComponentsOn}
 use Rattle.gf_visible.proofs.ShownGroupLemmas.{more_on, sets_rise, visible_on}
@@ -17,7 +17,7 @@ pub add_groups-requires : goal.add_groups-requires
 add_groups-requires c =
     let h = c.history-history.result.now.ops in
     let listed = rw c.in-Some.is at c.in_ok-sets.ensures in
-    sets_rise h (positions_below h c.args.object (length h)) c.in-Some.sets.items listed.0
+    sets_rise h (positions_on h c.args.object) c.in-Some.sets.items listed.0
 
 pub returns-clause-groups : goal.returns-clause-groups
 returns-clause-groups c =

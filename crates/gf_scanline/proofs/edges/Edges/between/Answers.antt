@@ -1,7 +1,7 @@
 use Rattle.std.proofs.Common.{arith, IsTrue, length, drop, ◌-◌}
 use Rattle.std.proofs.lemmas.Int.{to_z-of_z}
 use Rattle.std.proofs.lemmas.List.Elements.{All-drop, All-get_or, All-take}
-use Rattle.gf_shape.specs.Reach.{is_within_reach}
+use Rattle.gf_plane.specs.Reach.{is_within_reach}
 use Rattle.gf_scanline.proofs.EdgeLemmas.{origin, reached_along, ring_tells}
 use Rattle.gf_scanline.proofs.edges.Edges.between.Goals as goal
 

@@ -1,5 +1,5 @@
 use Rattle.std.proofs.Common.{ℕ, ◌≡◌, ◌≤◌, ◌-◌, ◌⊎◌, ◌&&◌, not}
-use Rattle.gf_shape.specs.declared.colour.Rgb.{Rgb}
+use Rattle.gf_plane.specs.declared.colour.Rgb.{Rgb}
 use Rattle.gf_scanline.specs.Columns.{is_among, is_from}
 use Rattle.gf_scanline.specs.Free.{is_free}
 use Rattle.gf_scanline.specs.Segments.{views}

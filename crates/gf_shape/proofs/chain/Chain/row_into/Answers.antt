@@ -1,6 +1,6 @@
 use Rattle.std.proofs.Common.{arith, subst, sym, IsTrue, length, drop, ◌-◌}
 use Rattle.std.proofs.lemmas.List.Elements.{All-drop, All-get_or, All-take}
-use Rattle.gf_shape.specs.Reach.{is_within_reach}
+use Rattle.gf_plane.specs.Reach.{is_within_reach}
 use Rattle.gf_shape.proofs.RowShapes.{end_of-ring}
 use Rattle.gf_shape.proofs.chain.Chain.row_into.Goals as goal
 

@@ -1,6 +1,6 @@
 use Rattle.std.proofs.Common.{rules, sym, FitsSigned, w32}
 use Rattle.std.proofs.lemmas.Int.{to_z-of_z}
-use Rattle.gf_shape.specs.Moving.{minus}
+use Rattle.gf_plane.specs.Moving.{minus}
 use Rattle.gf_shape.proofs.OvalLemmas.{ellipse_beside}
 use Rattle.gf_shape.proofs.oval.Oval.holds.Goals as goal
 

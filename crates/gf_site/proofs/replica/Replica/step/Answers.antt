@@ -3,7 +3,7 @@ use Rattle.std.proofs.lemmas.Result.{err_from_is_err_and}
 use Rattle.gf_ops.specs.Accepted.{IsAccepted, IsRefused}
 use Rattle.gf_causal.specs.HeldOperations.{IsFirstReady}
 use Rattle.gf_causal.specs.Ready.{NoneIsReady}
-use Rattle.gf_site.proofs.StepLemmas.{run_more, refused_by}
+use Rattle.gf_site.proofs.StepLemmas.{refused_by}
 use Rattle.gf_site.proofs.replica.Replica.step.Goals as goal
 
 pub returns-in_default-clause-ok : goal.returns-in_default-clause-ok
@@ -46,15 +46,6 @@ returns-in_err-copy-clause-out_of_memory g c =
       first = subst (λ h. IsFirstReady c.self.inside.buffer h a) same c.in-Some.ensures.found;
       accepted = subst (λ h. IsAccepted h a) same (c.in_default-check.ensures.ok.0 refl);
     })
-
-pub invariant_of-self-2 : goal.invariant_of-self-2
-invariant_of-self-2 g c =
-    let ops = g.H.GrowingHistory.ops in
-    let a = c.in-Some.op.now in
-    let accepted = subst (λ h. IsAccepted h a) c.history-history.ensures
-    (c.in_default-check.ensures.ok.0 refl) in
-    run_more (ops c.self.inside.history) (ops c.add.new.self) a c.in_ok-copy.field-0
-    c.self.invariant accepted c.in_ok-copy.ensures c.in_ok-add.ensures.ok
 
 pub returns-clause-ok : goal.returns-clause-ok
 returns-clause-ok g c =

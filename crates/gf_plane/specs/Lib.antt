@@ -1,0 +1,6 @@
+pub mod Reach
+pub mod Moving
+pub mod PointCounts
+pub mod ColourBytes
+pub mod White
+pub mod HexDigits
