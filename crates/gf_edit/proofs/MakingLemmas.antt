@@ -15,7 +15,7 @@ use Rattle.gf_ops.specs.Limits.{IsInRange}
 use Rattle.gf_ops.specs.Accepted.{IsAccepted}
 use Rattle.gf_site.specs.SiteState.{SiteState, authored}
 use Rattle.gf_run.specs.declared.studio_error.StudioError.TheVariants as studio
-use Rattle.gf_worker.specs.Turns.{AwaitAnswer}
+use Rattle.gf_site.specs.CommandAnswers.{AwaitAnswer}
 use Rattle.gf_keep.specs.Keeping.{AreKeeping}
 use Rattle.gf_site.specs.MadeEach.{MakesEach}
 use Rattle.gf_keep.specs.declared.keep.Keep.{Keep}

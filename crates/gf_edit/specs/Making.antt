@@ -10,7 +10,7 @@ use Rattle.gf_keep.specs.Keeping.{AreKeeping}
 use Rattle.gf_site.specs.MadeEach.{MakesEach}
 use Rattle.gf_keep.specs.declared.keep.Keep.{Keep}
 use Rattle.gf_site.specs.SiteState.{authored}
-use Rattle.gf_worker.specs.Turns.{AwaitAnswer}
+use Rattle.gf_site.specs.CommandAnswers.{AwaitAnswer}
 use Rattle.gf_edit.specs.declared.edit_command.EditCommand.{EditCommand}
 use Rattle.gf_edit.specs.declared.edit_command.EditCommand.TheVariants as command
 use Rattle.gf_edit.specs.declared.numbered.Numbered.{Numbered}

@@ -9,8 +9,8 @@ use Rattle.gf_site.specs.Events.{Authors}
 use Rattle.gf_site.specs.declared.faults.AuthorFault.{AuthorFault}
 use Rattle.gf_site.specs.declared.faults.AuthorFault.TheVariants as fault
 use Rattle.gf_run.specs.declared.studio_error.StudioError.TheVariants as studio
-use Rattle.gf_worker.specs.declared.report.Cause.TheVariants as cause
-use Rattle.gf_worker.specs.Turns.{AwaitAnswer}
+use Rattle.gf_site.specs.declared.cause.Cause.TheVariants as cause
+use Rattle.gf_site.specs.CommandAnswers.{AwaitAnswer}
 use Rattle.gf_keep.specs.Keeping.{AreKeeping}
 use Rattle.gf_site.specs.MadeEach.{MakesEach}
 use Rattle.gf_keep.specs.declared.faults.KeepFault.{KeepFault}

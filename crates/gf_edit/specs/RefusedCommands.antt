@@ -7,9 +7,9 @@ use Rattle.gf_keep.specs.KeepFaults.{HasNoneKept, RefusesKeep}
 use Rattle.gf_site.specs.MadeEach.{MakesEach}
 use Rattle.gf_keep.specs.declared.faults.KeepFault.TheVariants as fault
 use Rattle.gf_keep.specs.declared.keep.Keep.{Keep}
-use Rattle.gf_worker.specs.declared.report.Cause.{Cause}
-use Rattle.gf_worker.specs.declared.report.Cause.TheVariants as cause
-use Rattle.gf_worker.specs.Turns.{AuthorAnswer, AwaitAnswer}
+use Rattle.gf_site.specs.declared.cause.Cause.{Cause}
+use Rattle.gf_site.specs.declared.cause.Cause.TheVariants as cause
+use Rattle.gf_site.specs.CommandAnswers.{AuthorAnswer, AwaitAnswer}
 use Rattle.gf_edit.specs.declared.edit_command.EditCommand.{EditCommand}
 use Rattle.gf_edit.specs.declared.edit_command.EditCommand.TheVariants as command
 

@@ -7,7 +7,7 @@ ghost use Rattle.gf_run.specs.Refusals.{of_reading};
 use gf_ops::OpId;
 use gf_replay::ReadingError;
 use gf_run::StudioError;
-use gf_worker::Cause;
+use gf_site::Cause;
 use thiserror::Error;
 
 /// Why an edit was refused.

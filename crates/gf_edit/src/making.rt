@@ -6,7 +6,7 @@ ghost use Rattle.gf_causal.specs.HeldOperations.{IsFree};
 ghost use Rattle.gf_edit.specs.declared.edit_command.EditCommand.{EditCommand};
 ghost use Rattle.gf_json.specs.OperationLines.{denoted};
 ghost use Rattle.gf_json.specs.WrittenLines.{op_text};
-ghost use Rattle.gf_worker.specs.Turns.{AwaitAnswer, HasOp};
+ghost use Rattle.gf_site.specs.CommandAnswers.{AwaitAnswer, HasOp};
 ghost use Rattle.gf_edit.specs.Making.{written_line};
 ghost use Rattle.gf_edit.specs.MakingSteps.{HasPassed, Passes, RefusesCommand, RefusesMaking};
 ghost use Rattle.gf_edit.specs.MakingSteps.{RefusesEach, WritesEach, WritesKeep, WritesOp};
@@ -20,8 +20,7 @@ use gf_json::op_line;
 use gf_keep::{Keep, KeepFault, keeping};
 use gf_ops::{Change, History, Op, OpId};
 use gf_run::StudioError;
-use gf_site::{AuthorFault, Site};
-use gf_worker::Cause;
+use gf_site::{AuthorFault, Cause, Site};
 use std::alloc::Global;
 
 /// The lines of the operations that the site makes of these commands, in order.

@@ -13,6 +13,7 @@ mod laws;
 mod session;
 mod starting;
 
-pub use gf_worker::{Cause, Ends, Refused, Report, Script, WorkerEnd, site_worker};
+pub use gf_site::Cause;
+pub use gf_worker::{Ends, Refused, Report, Script, WorkerEnd, site_worker};
 pub use laws::joined_workers_have_one_history;
 pub use session::{Done, SessionError, run_session};

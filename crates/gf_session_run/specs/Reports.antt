@@ -2,9 +2,9 @@
 -- decimal).
 use Rattle.std.specs.Prelude.{ℕ, List, ◌++◌, length, flat_map, codes}
 use Rattle.std.specs.Fmt.{decimal}
-use Rattle.gf_worker.specs.declared.report.Cause.{Cause}
-use Rattle.gf_worker.specs.declared.report.Cause.TheVariants.{Exhausted, Range, NoObject, WrongKind}
-use Rattle.gf_worker.specs.declared.report.Cause.TheVariants.{BadAim, OwnId, NeverComes}
+use Rattle.gf_site.specs.declared.cause.Cause.{Cause}
+use Rattle.gf_site.specs.declared.cause.Cause.TheVariants.{Exhausted, Range, NoObject, WrongKind}
+use Rattle.gf_site.specs.declared.cause.Cause.TheVariants.{BadAim, OwnId, NeverComes}
 use Rattle.gf_worker.specs.declared.report.Refused.{Refused}
 use Rattle.gf_worker.specs.declared.report.Report.{Report}
 use Rattle.gf_session.specs.declared.session.Done.{Done}

@@ -6,7 +6,8 @@ ghost use Rattle.gf_session_run.specs.Reports.{report_text, site_text};
 
 use gf_base::push_number;
 use gf_session::Done;
-use gf_worker::{Cause, Refused, Report};
+use gf_site::Cause;
+use gf_worker::{Refused, Report};
 use std::alloc::AllocError;
 
 /// Appends the lines of each site.

@@ -5,13 +5,16 @@
 //! - [`GrowingHistory`]: the history that both have. It is a `VersionedHistory` where nothing else is
 //!   said; with a `History` alone no time is spent on versions.
 //! - [`Step`], [`AuthorFault`]: what a step came to, and why a change was refused.
+//! - [`Cause`]: why a command to make a change, or to wait for an operation, was refused.
 #![tactic(auto)]
 
+mod cause;
 mod faults;
 mod growing;
 mod replica;
 mod site;
 
+pub use cause::Cause;
 pub use faults::AuthorFault;
 pub use growing::GrowingHistory;
 pub use replica::{Replica, Step};

@@ -17,7 +17,7 @@ use Rattle.gf_site.specs.declared.faults.AuthorFault.{AuthorFault}
 use Rattle.gf_site.specs.declared.faults.AuthorFault.TheVariants as fault
 use Rattle.gf_json.specs.declared.scripts.Command.{Command}
 use Rattle.gf_json.specs.declared.scripts.Command.TheVariants.{Author}
-use Rattle.gf_worker.specs.declared.report.Cause.TheVariants.{NeverComes}
+use Rattle.gf_site.specs.declared.cause.Cause.TheVariants.{NeverComes}
 use Rattle.gf_worker.specs.declared.report.Report.{Report}
 use Rattle.gf_worker.specs.declared.peer.Peer.{Peer}
 use Rattle.gf_worker.specs.declared.work.Work.{Work}
@@ -27,7 +27,8 @@ use Rattle.gf_worker.specs.Coming.{HasCome}
 use Rattle.gf_worker.specs.Played.{IsPlayed}
 use Rattle.gf_worker.specs.Sending.{SendsToPeers}
 use Rattle.gf_worker.specs.Working.{Gathers, IsUnderway, IsSilent, IsSent, AreSent}
-use Rattle.gf_worker.specs.Turns.{Turn, AuthorAnswer, refusal_of, accepted_change}
+use Rattle.gf_site.specs.CommandAnswers.{AuthorAnswer}
+use Rattle.gf_worker.specs.Turns.{Turn, refusal_of, accepted_change}
 use Rattle.gf_worker.specs.Playing.{IsRefusal, IsFaultReported, PlaysOn, cause_of}
 use Rattle.gf_worker.proofs.TurnLemmas.{own_same}
 use Rattle.gf_worker.proofs.PlayLemmas.{played_turn, played_author}

@@ -6,8 +6,8 @@ use Rattle.std.proofs.lemmas.List.Elements.{Contains-push_cases}
 use Rattle.gf_ops.specs.declared.op.OpId.{OpId}
 use Rattle.gf_json.specs.declared.scripts.Command.{Command}
 use Rattle.gf_json.specs.declared.scripts.Command.TheVariants.{Await}
-use Rattle.gf_worker.specs.declared.report.Cause.{Cause}
-use Rattle.gf_worker.specs.declared.report.Cause.TheVariants.{NeverComes}
+use Rattle.gf_site.specs.declared.cause.Cause.{Cause}
+use Rattle.gf_site.specs.declared.cause.Cause.TheVariants.{NeverComes}
 use Rattle.gf_worker.specs.declared.report.Report.{Report}
 use Rattle.gf_worker.specs.declared.work.Work.{Work}
 use Rattle.gf_worker.specs.Turns.{Turn, refusal_of}

@@ -11,7 +11,7 @@ use Rattle.gf_ops.specs.Accepted.{IsAccepted}
 use Rattle.gf_causal.specs.Ready.{IsReady}
 use Rattle.gf_causal.specs.DeliveredPart.{AreReady}
 use Rattle.gf_causal.proofs.CourseLemmas.{has_counted, number_counted}
-use Rattle.gf_worker.specs.Turns.{ComesAfter, NothingComes}
+use Rattle.gf_site.specs.CommandAnswers.{ComesAfter, NothingComes}
 
 -- a longer list counts no less
 count_grows : (h k : List Op) (s : ℕ) → count_of h s ≤ count_of (h ++ k) s

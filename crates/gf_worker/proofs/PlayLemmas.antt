@@ -15,7 +15,7 @@ use Rattle.gf_json.specs.declared.scripts.Command.{Command}
 use Rattle.gf_json.specs.declared.scripts.Command.TheVariants.{Author}
 use Rattle.gf_site.specs.SiteState.{authored}
 use Rattle.gf_worker.proofs.TurnLemmas.{own_same, turn_more, nothing_push}
-use Rattle.gf_worker.specs.declared.report.Cause.{Cause}
+use Rattle.gf_site.specs.declared.cause.Cause.{Cause}
 use Rattle.gf_worker.specs.declared.report.Report.{Report}
 use Rattle.gf_worker.specs.Messages.{own}
 use Rattle.gf_worker.specs.Played.{IsPlayed}

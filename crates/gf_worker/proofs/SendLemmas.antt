@@ -17,7 +17,7 @@ use Rattle.gf_link.specs.Ends.{is_ended}
 use Rattle.gf_link.specs.Seats.{TakeSide, SendSide}
 use Rattle.gf_json.specs.declared.scripts.Command.{Command}
 use Rattle.gf_json.specs.declared.scripts.Command.TheVariants.{Author, Await}
-use Rattle.gf_worker.specs.declared.report.Cause.{Cause}
+use Rattle.gf_site.specs.declared.cause.Cause.{Cause}
 use Rattle.gf_worker.specs.declared.report.Report.{Report}
 use Rattle.gf_worker.specs.declared.peer.Peer.{Peer}
 use Rattle.gf_worker.specs.declared.work.Work.{Work}

@@ -12,14 +12,14 @@ use Rattle.gf_ops.specs.declared.op.OpId.{OpId}
 use Rattle.gf_ops.specs.declared.change.Change.{Change}
 use Rattle.gf_json.specs.declared.scripts.Command.{Command}
 use Rattle.gf_json.specs.declared.scripts.Command.TheVariants.{Author, Await}
-use Rattle.gf_worker.specs.declared.report.Cause.{Cause}
-use Rattle.gf_worker.specs.declared.report.Cause.TheVariants.{Exhausted, Range, NoObject, WrongKind}
-use Rattle.gf_worker.specs.declared.report.Cause.TheVariants.{BadAim, OwnId, NeverComes}
+use Rattle.gf_site.specs.declared.cause.Cause.{Cause}
+use Rattle.gf_site.specs.declared.cause.Cause.TheVariants.{Exhausted, Range, NoObject, WrongKind}
+use Rattle.gf_site.specs.declared.cause.Cause.TheVariants.{BadAim, OwnId, NeverComes}
 use Rattle.gf_worker.specs.declared.report.Report.{Report}
 use Rattle.gf_worker.specs.Messages.{own}
 use Rattle.gf_worker.specs.Played.{IsPlayed}
-use Rattle.gf_worker.specs.Turns.{Turn, Answer, AuthorAnswer, AwaitAnswer, IsCommandTurn}
-use Rattle.gf_worker.specs.Turns.{ComesAfter, NothingComes}
+use Rattle.gf_site.specs.CommandAnswers.{AuthorAnswer, AwaitAnswer, ComesAfter, NothingComes}
+use Rattle.gf_worker.specs.Turns.{Turn, Answer, IsCommandTurn}
 
 own_none : (s : ℕ) (a : Op) → a.id.site ≢ s → own s (a ∷ []) ≡ []
 own_none s a n = elim (eqb_tells a.id.site s) [ inl p ↦ absurd (n p.1) | inr p ↦ rw p.0 refl ]

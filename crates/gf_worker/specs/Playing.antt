@@ -3,7 +3,7 @@ use Rattle.std.specs.Prelude.{◌≡◌, ◌≢◌, ◌⊎◌, ◌+◌, ◌++◌
 use Rattle.std.specs.Prelude.{ℕ, Bool, true, false, List, Option, Some, None, map, length}
 use Rattle.atomic_table.specs.Seated.{TableId}
 use Rattle.gf_json.specs.declared.scripts.Command.{Command}
-use Rattle.gf_worker.specs.declared.report.Cause.{Cause}
+use Rattle.gf_site.specs.declared.cause.Cause.{Cause}
 use Rattle.gf_worker.specs.declared.report.Report.{Report}
 use Rattle.gf_worker.specs.declared.work.Work.{Work}
 use Rattle.gf_worker.specs.Peers.{ArePlaced, seat_of}
@@ -11,7 +11,7 @@ use Rattle.gf_worker.specs.Working.{Gathers, IsUnderway, AreSent, Plays}
 use Rattle.gf_worker.specs.Turns.{refusal_of}
 use Rattle.gf_site.specs.declared.faults.AuthorFault.{AuthorFault}
 use Rattle.gf_site.specs.declared.faults.AuthorFault.TheVariants as fault
-use Rattle.gf_worker.specs.declared.report.Cause.TheVariants as cause
+use Rattle.gf_site.specs.declared.cause.Cause.TheVariants as cause
 
 -- the refusal, if there is one, is in the report, unless memory was refused
 pub record IsRefusal (number : ℕ) (cause : Option Cause) (done : Bool)

@@ -15,7 +15,7 @@ use Rattle.gf_site.specs.Course.{IsCourse}
 use Rattle.gf_site.specs.declared.replica.Step.{Step}
 use Rattle.gf_site.specs.declared.replica.Step.TheVariants as step
 use Rattle.gf_json.specs.declared.scripts.Command.{Command}
-use Rattle.gf_worker.specs.declared.report.Cause.TheVariants.{NeverComes}
+use Rattle.gf_site.specs.declared.cause.Cause.TheVariants.{NeverComes}
 use Rattle.gf_worker.specs.declared.peer.Peer.{Peer}
 use Rattle.gf_worker.specs.declared.work.Work.{Work}
 use Rattle.gf_worker.specs.declared.waiting.Waited.{Waited}
@@ -24,8 +24,9 @@ use Rattle.gf_worker.specs.Messages.{own, messages_of}
 use Rattle.gf_worker.specs.Peers.{all_ended, ArePlaced, seat_of}
 use Rattle.gf_worker.specs.Coming.{HasCome, IsWhole}
 use Rattle.gf_worker.specs.Played.{IsPlayed}
-use Rattle.gf_worker.specs.declared.report.Cause.{Cause}
-use Rattle.gf_worker.specs.Turns.{Turn, HasOp, AwaitAnswer}
+use Rattle.gf_site.specs.declared.cause.Cause.{Cause}
+use Rattle.gf_site.specs.CommandAnswers.{HasOp, AwaitAnswer}
+use Rattle.gf_worker.specs.Turns.{Turn}
 
 -- what the site has and holds of other sites came from peers. Unless it is short, it has or holds
 -- all that came, where that with its own is a valid history

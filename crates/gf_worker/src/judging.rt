@@ -5,11 +5,11 @@ ghost use Rattle.gf_ops.specs.Limits.{is_id};
 ghost use Rattle.gf_worker.specs.Peers.{ArePlaced};
 ghost use Rattle.gf_worker.specs.Working.{Continues, Judges};
 
-use crate::Cause;
 use crate::waiting::Waited;
 use crate::work::Work;
 use gf_link::Link;
 use gf_ops::OpId;
+use gf_site::Cause;
 use std::sync::Wait;
 
 /// Whether the id names one of the first 10,000 operations of a site.

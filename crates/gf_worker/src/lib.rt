@@ -5,7 +5,7 @@
 //!   back.
 //! - [`stop_worker`]: what is done for a site whose worker does not run.
 //! - [`Peer`]: another site, with the seats of the two links between them.
-//! - [`Script`], [`Report`], [`Refused`], [`Cause`]: what a site is to do, and what became of it.
+//! - [`Script`], [`Report`], [`Refused`]: what a site is to do, and what became of it.
 #![tactic(auto)]
 
 mod judging;
@@ -19,6 +19,6 @@ mod work;
 mod worker;
 
 pub use peer::Peer;
-pub use report::{Cause, Refused, Report};
+pub use report::{Refused, Report};
 pub use script::Script;
 pub use worker::{Ends, WorkerEnd, site_worker, stop_worker};

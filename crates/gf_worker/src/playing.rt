@@ -9,12 +9,12 @@ ghost use Rattle.gf_worker.specs.Playing.{cause_of};
 
 use crate::sending::send_all;
 use crate::work::Work;
-use crate::{Cause, Refused, Report};
+use crate::{Refused, Report};
 use gf_gate::Gate;
 use gf_json::Command;
 use gf_link::Link;
 use gf_ops::{Change, OpId};
-use gf_site::AuthorFault;
+use gf_site::{AuthorFault, Cause};
 use std::alloc::Global;
 use std::sync::Wait;
 

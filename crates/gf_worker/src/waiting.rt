@@ -5,7 +5,7 @@ ghost use Rattle.gf_causal.specs.Ready.{NoneIsReady};
 ghost use Rattle.gf_causal.specs.HeldOperations.{IsFree};
 ghost use Rattle.gf_worker.specs.Peers.{ArePlaced, all_ended};
 ghost use Rattle.gf_worker.specs.Working.{Continues, Waits};
-ghost use Rattle.gf_worker.specs.Turns.{HasOp};
+ghost use Rattle.gf_site.specs.CommandAnswers.{HasOp};
 
 use crate::work::Work;
 use gf_link::Link;

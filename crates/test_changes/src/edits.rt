@@ -2,9 +2,9 @@
 
 use gf_edit::{EditError, edit_run};
 use gf_ops::OpId;
+use gf_site::Cause;
 use gf_streams::{Reel, Tape};
 use gf_studio::StudioError;
-use gf_worker::Cause;
 use std::alloc::Global;
 use std::test::Fail;
 use test_kit::{is_answer, prints};
