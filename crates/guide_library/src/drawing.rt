@@ -1,11 +1,11 @@
 //! A drawing to FIG text, and back.
 
+use crate::lines::history;
 use gf_drawing::compile;
 use gf_fig_read::read_fig;
 use gf_fig_write::fig_bytes;
 use gf_plane::Point;
 use gf_visible::ranked;
-use guide_kit::history;
 use std::test::Fail;
 
 #[test]

@@ -1,10 +1,10 @@
 //! A history and its versions.
 
+use crate::lines::history;
 use gf_ops::{ObjectId, OpId};
 use gf_plane::Rgb;
 use gf_table::groups_of;
 use gf_visible::ranked;
-use guide_kit::history;
 use std::test::Fail;
 
 #[test]

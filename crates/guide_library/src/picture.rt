@@ -1,10 +1,10 @@
 //! A picture of a drawing.
 
+use crate::lines::history;
 use gf_drawing::compile;
 use gf_raster::{OpenGate, Window, ppm_to};
 use gf_streams::Tape;
 use gf_visible::ranked;
-use guide_kit::history;
 use std::test::Fail;
 
 #[test]

@@ -1,9 +1,9 @@
 //! A site, which holds what comes too early.
 
+use crate::lines::LINES;
 use gf_causal::Offered;
 use gf_json::read_op;
 use gf_site::{Site, Step};
-use guide_kit::LINES;
 use std::test::Fail;
 
 #[test]
