@@ -38,7 +38,8 @@ WritesExtent format extent bytes old new =
     (w : View) × IsWindowOf format extent bytes w × WritesPicture (IsShownBy format bytes) w old new
 
 -- known bytes grow by a prefix of such a picture, perhaps by whole bands
-abbrev pub WritesExtentPrefix : Format → Extent → List ℕ → Option (List ℕ) → Option (List ℕ) → Type 0
+abbrev pub WritesExtentPrefix : Format → Extent → List ℕ → Option (List ℕ) → Option (List ℕ)
+    → Type 0
 WritesExtentPrefix format extent bytes old new =
     WritesPrefix (Paints format extent bytes) old new ⊎ PaintsBands format extent bytes old new
 
