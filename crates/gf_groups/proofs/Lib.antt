@@ -7,5 +7,6 @@ pub mod PositionLemmas
 pub mod SortedLemmas
 pub mod SublistLemmas
 pub mod LargestGroupLemmas
+pub mod StandingLemmas
 pub mod VersionLemmas
 pub mod VersionListLemmas

@@ -31,11 +31,11 @@ abbrev has_op : List OpId → Option Op → Bool
 has_op q (Some a) = is_in q a
 has_op q None = false
 
-in_from : (q : List OpId) (a : Op) → is_in q a ≡ true → Contains q a.id
+pub in_from : (q : List OpId) (a : Op) → is_in q a ≡ true → Contains q a.id
 in_from q a t = let w = list_any_true (id_eq a.id) q t in
     subst (Contains q) (sym ((id_decided a.id w.0).0 w.2)) w.1
 
-in_to : (q : List OpId) (a : Op) → Contains q a.id → is_in q a ≡ true
+pub in_to : (q : List OpId) (a : Op) → Contains q a.id → is_in q a ≡ true
 in_to q a c = list_any_from (id_eq a.id) q a.id c ((id_decided a.id a.id).1 refl)
 
 had_op : (q : List OpId) (r : Option Op) → has_op q r ≡ true

@@ -6,14 +6,14 @@ use gf_ops::{Ids, ObjectId};
 use std::marker::Model;
 
 /// The operations of one version of an object, their ids rising.
-#[derive(Debug, Drop)]
+#[derive(Drop)]
 pub struct Group {
     pub object: ObjectId,
     pub ops: Ids,
 }
 
 /// Groups, seen as their list.
-#[derive(Debug, Drop)]
+#[derive(Drop)]
 pub struct Groups {
     groups: Vec<Group>,
 }

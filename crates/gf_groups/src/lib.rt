@@ -3,7 +3,7 @@
 //!
 //! - [`Groups`]: the versions of an object, a list of [`Group`]. [`GroupFault`]: why there is no
 //!   such list. [`is_made`]: whether the history has the object.
-//! - [`the_versions_are_a_list_that_computes`]: the law.
+//! - [`each_operation_stands_in_a_version`], [`the_versions_are_a_list_that_computes`]: the laws.
 //!
 //! For tables of versions: whether the operations at two positions conflict ([`conflict_at`]) or
 //! come one before the other ([`before_at`]), and the largest sets of positions without a conflict
@@ -24,5 +24,5 @@ pub use faults::GroupFault;
 pub use group::{Group, Groups};
 pub use groups::{groups_from, is_made};
 pub use growth::groups_at;
-pub use laws::the_versions_are_a_list_that_computes;
+pub use laws::{each_operation_stands_in_a_version, the_versions_are_a_list_that_computes};
 pub use listing::{add_groups, rising_ids};
