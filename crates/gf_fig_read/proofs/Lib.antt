@@ -5,3 +5,4 @@ pub mod ObjectLemmas
 pub mod FaultLemmas
 pub mod GrammarLemmas
 pub mod LineLemmas
+pub mod LawfulLemmas

@@ -1,6 +1,7 @@
 //! Laws of the FIG grammar.
 
-ghost use Rattle.std.specs.Prelude.{◌≡◌, ◌≢◌, ◌⊎◌, ◌↔◌, IsTrue, List, ℕ};
+ghost use Rattle.std.specs.Prelude.{◌≡◌, ◌≢◌, ◌⊎◌, ◌↔◌, All, IsTrue, List, ℕ};
+ghost use Rattle.gf_shape.specs.ShapeLaws.{IsLawful};
 ghost use Rattle.gf_fig_read.specs.FigGrammar.{Reads, Fails, is_of_header};
 ghost use Rattle.gf_fig_read.specs.Objects.{Drawn};
 ghost use Rattle.gf_fig_tokens.specs.declared.faults.FigFault.{FigFault};
@@ -20,4 +21,9 @@ pub fn every_text_reads_as_one_drawing_or_fails_once()
         → n ≡ 0 ↔ IsTrue (is_of_header f) }
     ensures memory { (text : List ℕ) (f : FigFault) (n : ℕ) → Fails text f n
         → f ≢ fault.OutOfMemory }
+{}
+
+/// The figures that a text reads as have outlines within the limits of their kinds.
+pub fn what_a_text_reads_as_is_lawful()
+    ensures { (text : List ℕ) (d : Drawn) → Reads text d → All (λ f. IsLawful f.shape) d.figures }
 {}
