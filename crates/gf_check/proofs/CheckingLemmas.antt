@@ -249,5 +249,11 @@ checked_all editor bytes x t valid h =
     told_all editor bytes x t.text.items h.told h.is.text h.first
     (subst (λ lines. TellsEach editor lines h.told) all h.each)
     (subst (λ lines. AreKept editor lines h.told) all
-    (record { replica = x; valid = valid; none = h.none; one = h.one; all = h.all })) h.only h.order
-    h.is.plain
+    (record {
+      replica = x;
+      valid = valid;
+      none = h.none;
+      one = h.one;
+      all = h.all;
+      denoted = h.denoted;
+    })) h.only h.order h.is.plain

@@ -16,7 +16,7 @@ use Rattle.gf_site.specs.ReplicaState.{ReplicaState}
 use Rattle.gf_edit.specs.declared.entries.Entry.TheVariants as entry
 use Rattle.gf_check.specs.FaultLines.{Told, IsOnOneLine, errors, told_text}
 use Rattle.gf_check.specs.CheckedText.{DenotesSome, RefusesChecked, denoted_by}
-use Rattle.gf_check.specs.TrueFaults.{IsTrueOf}
+use Rattle.gf_check.specs.TrueFaults.{IsDenotedBy, IsTrueOf}
 
 -- the error is a fault of the input, and no want of memory
 abbrev pub IsInputFault : ReadingError → Type 0
@@ -53,7 +53,7 @@ abbrev pub HasOneById : ReplicaState → Type 0
 HasOneById x = (a b : Op) → HasOrHolds x a → HasOrHolds x b → a.id ≡ b.id → a ≡ b
 
 -- the operations that are not told: a replica has them in a valid history, or holds them until they
--- are ready
+-- are ready. It has and holds only what a line denotes
 pub record AreKept (editor : Option ℕ) (lines : List (ℕ × List ℕ)) (told : List Told)
     : Type 0 where
   pub replica : ReplicaState
@@ -61,6 +61,7 @@ pub record AreKept (editor : Option ℕ) (lines : List (ℕ × List ℕ)) (told 
   pub none : NoneIsReady replica.ops replica.held
   pub one : HasOneById replica
   pub all : KeepsOrTells editor lines told replica
+  pub denoted : (a : Op) → HasOrHolds replica a → IsDenotedBy editor lines a
 
 -- each fault that is told is one that the lines have
 abbrev pub TellsTrue : Option ℕ → List (ℕ × List ℕ) → List Told → Type 0

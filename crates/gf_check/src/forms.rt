@@ -5,7 +5,7 @@ use gf_plane::rgb_of_hex;
 use serde_json::Value;
 
 /// What has to stand at a key.
-#[derive(Clone, Copy, Debug, PartialEq, Eq)]
+#[derive(Clone, Copy, PartialEq, Eq)]
 pub(crate) enum Form {
     /// A word that the keys of the line were chosen by.
     Word,

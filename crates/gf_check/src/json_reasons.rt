@@ -1,6 +1,6 @@
 //! Why a line is no JSON.
 
-use crate::reasons::Reason;
+use crate::reasons::JsonReason;
 use gf_base::OutOfMemory;
 use serde_json::Value;
 use std::alloc::Global;
@@ -11,26 +11,26 @@ pub(crate) fn json_reason(
     line: &[u8],
     is_short: bool,
     column: usize,
-) -> Result<Reason<'static>, OutOfMemory> {
+) -> Result<JsonReason, OutOfMemory> {
     if line.starts_with(b"\xef\xbb\xbf") {
-        return Ok(Reason::ByteOrderMark);
+        return Ok(JsonReason::ByteOrderMark);
     }
     if is_marker(line) {
-        return Ok(Reason::Marker);
+        return Ok(JsonReason::Marker);
     }
     if std::str::from_utf8(line).is_err() {
-        return Ok(Reason::NoUtf8);
+        return Ok(JsonReason::NoUtf8);
     }
     if !is_short && ends_before(alloc, line, column)? {
-        return Ok(Reason::MoreBehind);
+        return Ok(JsonReason::MoreBehind);
     }
     if begins_within(line) {
-        return Ok(Reason::BeginsWithin);
+        return Ok(JsonReason::BeginsWithin);
     }
     if is_short {
-        Ok(Reason::DoesNotEnd)
+        Ok(JsonReason::DoesNotEnd)
     } else {
-        Ok(Reason::NoValue)
+        Ok(JsonReason::NoValue)
     }
 }
 

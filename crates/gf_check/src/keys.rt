@@ -1,17 +1,17 @@
 //! The keys of operation lines and command lines, and which of them a line has to have.
 
-use crate::reasons::Reason;
+use crate::reasons::KeyReason;
 use serde_json::Value;
 
 /// What a line is explained as.
-#[derive(Clone, Copy, Debug, PartialEq, Eq)]
+#[derive(Clone, Copy, PartialEq, Eq)]
 pub(crate) enum Sort {
     Operation,
     Command,
 }
 
 /// A key of a line.
-#[derive(Clone, Copy, Debug, PartialEq, Eq)]
+#[derive(Clone, Copy, PartialEq, Eq)]
 pub(crate) enum Key {
     Op,
     Do,
@@ -98,7 +98,7 @@ const SET_KEYS: &[Key] = &[Key::Object, Key::Set, Key::To];
 const AIMED_KEYS: &[Key] = &[Key::Object, Key::Set, Key::To, Key::Aim];
 
 /// The keys that a line has to have: those beside its change, and those of the change.
-#[derive(Clone, Copy, Debug)]
+#[derive(Clone, Copy)]
 pub(crate) struct Keys {
     pub(crate) beside: &'static [Key],
     pub(crate) change: &'static [Key],
@@ -112,18 +112,18 @@ impl Keys {
 }
 
 /// The keys that a line of this sort has to have, or why that can't be told.
-pub(crate) fn keys_of(line: &Value, sort: Sort) -> Result<Keys, Reason<'static>> {
+pub(crate) fn keys_of(line: &Value, sort: Sort) -> Result<Keys, KeyReason<'static>> {
     match sort {
         Sort::Operation => operation_keys(line),
         Sort::Command => command_keys(line),
     }
 }
 
-fn operation_keys(line: &Value) -> Result<Keys, Reason<'static>> {
+fn operation_keys(line: &Value) -> Result<Keys, KeyReason<'static>> {
     let change = match verb(line, "op")? {
         Some("create") => created_keys(line)?,
         Some("set") => changed_keys(line),
-        _ => return Err(Reason::OtherForm("op", "\"create\" or \"set\"")),
+        _ => return Err(KeyReason::OtherForm("op", "\"create\" or \"set\"")),
     };
     Ok(Keys {
         beside: keys_beside(Sort::Operation),
@@ -131,7 +131,7 @@ fn operation_keys(line: &Value) -> Result<Keys, Reason<'static>> {
     })
 }
 
-fn command_keys(line: &Value) -> Result<Keys, Reason<'static>> {
+fn command_keys(line: &Value) -> Result<Keys, KeyReason<'static>> {
     let change = match verb(line, "do")? {
         Some("create") => created_keys(line)?,
         Some("set") => changed_keys(line),
@@ -147,7 +147,7 @@ fn command_keys(line: &Value) -> Result<Keys, Reason<'static>> {
                 change: &[],
             });
         }
-        _ => return Err(Reason::OtherForm("do", "\"create\", \"set\", \"await\" or \"keep\"")),
+        _ => return Err(KeyReason::OtherForm("do", "\"create\", \"set\", \"await\" or \"keep\"")),
     };
     Ok(Keys {
         beside: keys_beside(Sort::Command),
@@ -156,18 +156,18 @@ fn command_keys(line: &Value) -> Result<Keys, Reason<'static>> {
 }
 
 /// The word that stands at this key, if a word stands there.
-fn verb<'v>(line: &'v Value, key: &'static str) -> Result<Option<&'v str>, Reason<'static>> {
+fn verb<'v>(line: &'v Value, key: &'static str) -> Result<Option<&'v str>, KeyReason<'static>> {
     match line.get(key) {
         Some(verb) => Ok(verb.as_str()),
-        None => Err(Reason::Missing(key)),
+        None => Err(KeyReason::Missing(key)),
     }
 }
 
-fn created_keys(line: &Value) -> Result<&'static [Key], Reason<'static>> {
+fn created_keys(line: &Value) -> Result<&'static [Key], KeyReason<'static>> {
     match verb(line, "kind")? {
         Some("box" | "circle" | "ellipse") => Ok(SIZED_KEYS),
         Some("polygon") => Ok(POLYGON_KEYS),
-        _ => Err(Reason::OtherForm("kind", "\"box\", \"circle\", \"ellipse\" or \"polygon\"")),
+        _ => Err(KeyReason::OtherForm("kind", "\"box\", \"circle\", \"ellipse\" or \"polygon\"")),
     }
 }
 

@@ -6,7 +6,7 @@ use crate::reasons::{Beyond, Side};
 use serde_json::Value;
 
 /// The least and the greatest number of a kind, and the words for the kind.
-#[derive(Clone, Copy, Debug)]
+#[derive(Clone, Copy)]
 struct Limits {
     word: &'static str,
     part: &'static str,

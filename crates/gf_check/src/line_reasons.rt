@@ -6,7 +6,7 @@ use crate::forms::form_of;
 use crate::json_reasons::json_reason;
 use crate::keys::{Key, Keys, Sort, is_known, keys_of};
 use crate::limits::limit_fault;
-use crate::reasons::{Reason, text_of, text_of_command};
+use crate::reasons::KeyReason;
 use gf_base::OutOfMemory;
 use gf_replay::LineCause;
 use serde_json::{Map, Value};
@@ -31,7 +31,7 @@ pub(crate) fn line_reason(
                 *commands = commands.saturating_add(1);
                 command_reason(alloc, &value, cause, editor, *commands)
             } else {
-                text_of(alloc, operation_reason(&value, cause))
+                Ok(format!(in alloc; "{}", operation_reason(&value, cause))?)
             }
         }
         Err(error) => {
@@ -39,17 +39,17 @@ pub(crate) fn line_reason(
                 return Err(OutOfMemory);
             }
             let reason = json_reason(alloc, line, error.is_eof(), error.column())?;
-            text_of(alloc, reason)
+            Ok(String::from_str(alloc, reason.words())?)
         }
     }
 }
 
 /// What is wrong with the value of an operation line that has this fault.
-fn operation_reason(line: &Value, cause: LineCause) -> Reason<'_> {
+fn operation_reason(line: &Value, cause: LineCause) -> KeyReason<'_> {
     match cause {
         LineCause::Field => field_reason(line, Sort::Operation),
         LineCause::Range => range_reason(line, Sort::Operation),
-        LineCause::Json | LineCause::Clash => Reason::Unclear,
+        LineCause::Json | LineCause::Clash => KeyReason::Unclear,
     }
 }
 
@@ -63,24 +63,24 @@ fn command_reason(
     number: u64,
 ) -> Result<String, OutOfMemory> {
     let Some(site) = editor else {
-        return text_of(alloc, Reason::Command);
+        return Ok(format!(in alloc; "{}", KeyReason::Command)?);
     };
     let reason = match cause {
         LineCause::Field => field_reason(line, Sort::Command),
         LineCause::Range => command_range(line, site),
-        LineCause::Json | LineCause::Clash => Reason::Unclear,
+        LineCause::Json | LineCause::Clash => KeyReason::Unclear,
     };
-    text_of_command(alloc, number, reason)
+    Ok(format!(in alloc; "command {number}: {reason}")?)
 }
 
 /// The first number that is not within its limits, or else the other site of the command.
-fn command_range(line: &Value, editor: u8) -> Reason<'static>
-    ensures { result ≢ Reason.Unclear }
+fn command_range(line: &Value, editor: u8) -> KeyReason<'static>
+    ensures { result ≢ KeyReason.Unclear }
 {
     match range_reason(line, Sort::Command) {
-        Reason::Limits => match other_site(line, editor) {
-            Some(site) => Reason::OtherSite(site, editor),
-            None => Reason::Limits,
+        KeyReason::Limits => match other_site(line, editor) {
+            Some(site) => KeyReason::OtherSite(site, editor),
+            None => KeyReason::Limits,
         },
         reason => reason,
     }
@@ -97,9 +97,9 @@ fn other_site(line: &Value, editor: u8) -> Option<i64> {
 }
 
 /// The first key at fault: unknown, missing, not of this kind of line, or of another form.
-fn field_reason(line: &Value, sort: Sort) -> Reason<'_> {
+fn field_reason(line: &Value, sort: Sort) -> KeyReason<'_> {
     let Some(members) = line.as_object() else {
-        return Reason::NoObject;
+        return KeyReason::NoObject;
     };
     for name in members.keys() {
         if !is_known(sort, name) {
@@ -113,25 +113,25 @@ fn field_reason(line: &Value, sort: Sort) -> Reason<'_> {
 }
 
 /// The first of the keys that is at fault, where each key of the line is one of some line.
-fn wrong_key<'a>(line: &'a Value, members: &'a Map<String, Value>, keys: Keys) -> Reason<'a> {
+fn wrong_key<'a>(line: &'a Value, members: &'a Map<String, Value>, keys: Keys) -> KeyReason<'a> {
     if let Some(name) = missing(line, keys.beside) {
-        return Reason::Missing(name);
+        return KeyReason::Missing(name);
     }
     if let Some(name) = missing(line, keys.change) {
-        return Reason::Missing(name);
+        return KeyReason::Missing(name);
     }
     for name in members.keys() {
         if !keys.have_name(name) {
-            return Reason::Misplaced(name);
+            return KeyReason::Misplaced(name);
         }
     }
     if let Some(key) = misshapen(line, keys.beside) {
-        return Reason::OtherForm(key.name(), form_of(line, key).words());
+        return KeyReason::OtherForm(key.name(), form_of(line, key).words());
     }
     if let Some(key) = misshapen(line, keys.change) {
-        return Reason::OtherForm(key.name(), form_of(line, key).words());
+        return KeyReason::OtherForm(key.name(), form_of(line, key).words());
     }
-    Reason::Unclear
+    KeyReason::Unclear
 }
 
 /// The first of the keys that the line has not.
@@ -157,27 +157,27 @@ fn misshapen(line: &Value, keys: &[Key]) -> Option<Key> {
 }
 
 /// The first number that is not within its limits.
-fn range_reason(line: &Value, sort: Sort) -> Reason<'static>
-    ensures { result ≢ Reason.Unclear }
+fn range_reason(line: &Value, sort: Sort) -> KeyReason<'static>
+    ensures { result ≢ KeyReason.Unclear }
 {
     let Ok(keys) = keys_of(line, sort) else {
-        return Reason::Limits;
+        return KeyReason::Limits;
     };
     if let Some(beyond) = limit_fault(line, keys.beside) {
-        return Reason::Beyond(beyond);
+        return KeyReason::Beyond(beyond);
     }
     match limit_fault(line, keys.change) {
-        Some(beyond) => Reason::Beyond(beyond),
-        None => Reason::Limits,
+        Some(beyond) => KeyReason::Beyond(beyond),
+        None => KeyReason::Limits,
     }
 }
 
 /// The reason that no line has a key of this name.
-fn unknown(name: &str) -> Reason<'_> {
+fn unknown(name: &str) -> KeyReason<'_> {
     if name.len() <= LONGEST_KEY && name.bytes().all(is_plain) {
-        Reason::UnknownKey(name)
+        KeyReason::UnknownKey(name)
     } else {
-        Reason::OddKey(name.len())
+        KeyReason::OddKey(name.len())
     }
 }
 

@@ -13,7 +13,7 @@ ghost use Rattle.gf_check.specs.CheckedLines.{TellsLine};
 
 use crate::line_reasons::line_reason;
 use crate::operation_reasons::{clash_reason, operation_reason};
-use crate::reasons::{Reason, text_of};
+use crate::reasons::OperationReason;
 use crate::seen::Seen;
 use crate::telling::Telling;
 use gf_base::OutOfMemory;
@@ -199,9 +199,9 @@ fn tell_clash(
 {
     let reason = match seen.get(op.id) {
         Some(first) => clash_reason(first, op),
-        None => Reason::Unclear,
+        None => OperationReason::Unclear,
     };
-    let why = text_of(alloc, reason)?;
+    let why = format!(in alloc; "{reason}")?;
     telling.tell_line(number, LineCause::Clash, why.as_bytes())
 }
 
@@ -221,8 +221,8 @@ fn tell_drop(
     }
     let reason = match seen.get(dropped.0) {
         Some(last) => operation_reason(replica.history(), &last.op, dropped.1),
-        None => Reason::Unclear,
+        None => OperationReason::Unclear,
     };
-    let why = text_of(alloc, reason)?;
+    let why = format!(in alloc; "{reason}")?;
     telling.tell_drop(dropped.0, dropped.1, why.as_bytes())
 }

@@ -1,22 +1,22 @@
 //! Why an operation doesn't fit.
 
-use crate::reasons::Reason;
+use crate::reasons::OperationReason;
 use crate::seen::SeenLine;
 use gf_ops::{Attr, Change, Clock, Form, History, ObjectId, Op, OpFault, OpId, Start, Value};
 
 /// What is wrong with an operation that was refused behind a history for this fault.
-pub(crate) fn operation_reason(history: &History, op: &Op, fault: OpFault) -> Reason<'static> {
+pub(crate) fn operation_reason(history: &History, op: &Op, fault: OpFault) -> OperationReason {
     match fault {
         OpFault::BadClock => clock_reason(history, op),
-        OpFault::NoObject => Reason::NotMade(op.object().0),
+        OpFault::NoObject => OperationReason::NotMade(op.object().0),
         OpFault::WrongKind => kind_reason(history, op),
         OpFault::BadAim => aim_reason(history, op),
     }
 }
 
 /// Where another operation came under the id, and what differs first.
-pub(crate) fn clash_reason(seen: &SeenLine, op: &Op) -> Reason<'static> {
-    Reason::Clash(op.id, seen.number, difference(&seen.op, op))
+pub(crate) fn clash_reason(seen: &SeenLine, op: &Op) -> OperationReason {
+    OperationReason::Clash(op.id, seen.number, difference(&seen.op, op))
 }
 
 // ---- clocks
@@ -31,11 +31,11 @@ fn entry(clock: &Clock, site: u8) -> u32 {
 
 /// The wrong entry of the operation's own site, or the first entry less than that of a counted
 /// operation.
-fn clock_reason(history: &History, op: &Op) -> Reason<'static> {
+fn clock_reason(history: &History, op: &Op) -> OperationReason {
     let own = entry(&op.past, op.id.site);
     let before = op.id.seq.saturating_sub(1);
     if own != before {
-        return Reason::OwnCount(own, before);
+        return OperationReason::OwnCount(own, before);
     }
     for site in 1..9 {
         let seq = entry(&op.past, site);
@@ -45,16 +45,16 @@ fn clock_reason(history: &History, op: &Op) -> Reason<'static> {
             }
         }
     }
-    Reason::Unclear
+    OperationReason::Unclear
 }
 
 /// The first entry that is less than that of an operation.
-fn behind_reason(last: &Op, op: &Op) -> Option<Reason<'static>> {
+fn behind_reason(last: &Op, op: &Op) -> Option<OperationReason> {
     for site in 1..9 {
         let count = entry(&op.past, site);
         let had = entry(&last.past, site);
         if count < had {
-            return Some(Reason::FallsBehind(count, site, last.id, had));
+            return Some(OperationReason::FallsBehind(count, site, last.id, had));
         }
     }
     None
@@ -62,13 +62,17 @@ fn behind_reason(last: &Op, op: &Op) -> Option<Reason<'static>> {
 
 // ---- kinds
 
-fn kind_reason(history: &History, op: &Op) -> Reason<'static> {
+fn kind_reason(history: &History, op: &Op) -> OperationReason {
     let Change::Set { object, value, .. } = &op.change else {
-        return Reason::Unclear;
+        return OperationReason::Unclear;
     };
     match made_form(history, *object) {
-        Some(form) => Reason::WrongKind(object.0, kind_words(form), value_words(form, value)),
-        None => Reason::Unclear,
+        Some(form) => OperationReason::WrongKind(
+            object.0,
+            kind_words(form),
+            value_words(form, value),
+        ),
+        None => OperationReason::Unclear,
     }
 }
 
@@ -101,27 +105,27 @@ fn value_words(form: &Form, value: &Value) -> &'static str {
 // ---- aims
 
 /// Why an operation of the aim may not stand there, for the first such one, or that two conflict.
-fn aim_reason(history: &History, op: &Op) -> Reason<'static> {
+fn aim_reason(history: &History, op: &Op) -> OperationReason {
     for id in op.aim() {
         if let Some(reason) = member_reason(history, op, *id) {
             return reason;
         }
     }
-    Reason::AimConflicts
+    OperationReason::AimConflicts
 }
 
-fn member_reason(history: &History, op: &Op, id: OpId) -> Option<Reason<'static>> {
+fn member_reason(history: &History, op: &Op, id: OpId) -> Option<OperationReason> {
     let Some(member) = history.get(id) else {
-        return Some(Reason::AimNotCounted(id));
+        return Some(OperationReason::AimNotCounted(id));
     };
     if entry(&op.past, id.site) < id.seq {
-        return Some(Reason::AimNotCounted(id));
+        return Some(OperationReason::AimNotCounted(id));
     }
     if member.object() != op.object() {
-        return Some(Reason::AimElsewhere(id));
+        return Some(OperationReason::AimElsewhere(id));
     }
     if lacks(member.aim(), op.aim()) {
-        return Some(Reason::AimLacks(id));
+        return Some(OperationReason::AimLacks(id));
     }
     None
 }

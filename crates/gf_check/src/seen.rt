@@ -6,14 +6,14 @@ use std::alloc::Global;
 use std::collections::BTreeMap;
 
 /// An operation, and the number of its line.
-#[derive(Debug, Drop)]
+#[derive(Drop)]
 pub(crate) struct SeenLine {
     pub(crate) number: u64,
     pub(crate) op: Op,
 }
 
 /// The last operation that came under each id.
-#[derive(Debug, Drop)]
+#[derive(Drop)]
 pub(crate) struct Seen {
     lines: BTreeMap<OpId, SeenLine>,
 }

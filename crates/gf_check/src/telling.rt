@@ -13,7 +13,7 @@ use std::alloc::Global;
 use std::collections::BTreeSet;
 
 /// The lines that tell faults, and each id and cause of the drops among them.
-#[derive(Debug, Drop)]
+#[derive(Drop)]
 pub(crate) struct Telling {
     text: Vec<u8>,
     drops: BTreeSet<(OpId, u8)>,
