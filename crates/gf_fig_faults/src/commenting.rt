@@ -10,7 +10,7 @@ use gf_fig_tokens::cut_line;
 use std::alloc::{AllocError, Global};
 
 /// Where a line stands to the object that becomes comments.
-#[derive(Clone, Copy, Debug, PartialEq, Eq)]
+#[derive(Clone, Copy, PartialEq, Eq)]
 pub(crate) enum Stage {
     /// The first line of the object comes this many lines later.
     Before(u64),

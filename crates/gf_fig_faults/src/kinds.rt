@@ -4,33 +4,40 @@ ghost use Rattle.std.specs.Prelude.{◌≤◌};
 
 use crate::fields::{from_line, number_at};
 use std::fmt;
-use thiserror::Error;
 
 /// The kinds of objects of FIG, as an editor names them.
-#[derive(Clone, Copy, Debug, PartialEq, Eq, Error)]
+#[derive(Clone, Copy, Debug, PartialEq, Eq)]
 pub enum Kind {
-    #[error("ellipse")]
     Ellipse,
-    #[error("circle")]
     Circle,
-    #[error("polyline")]
     Polyline,
-    #[error("box")]
     Box,
-    #[error("polygon")]
     Polygon,
-    #[error("arc-box")]
     ArcBox,
-    #[error("picture")]
     Picture,
-    #[error("spline")]
     Spline,
-    #[error("text")]
     Text,
-    #[error("arc")]
     Arc,
-    #[error("compound")]
     Compound,
+}
+
+impl Kind {
+    /// The word for the kind.
+    pub fn word(self) -> &'static str {
+        match self {
+            Kind::Ellipse => "ellipse",
+            Kind::Circle => "circle",
+            Kind::Polyline => "polyline",
+            Kind::Box => "box",
+            Kind::Polygon => "polygon",
+            Kind::ArcBox => "arc-box",
+            Kind::Picture => "picture",
+            Kind::Spline => "spline",
+            Kind::Text => "text",
+            Kind::Arc => "arc",
+            Kind::Compound => "compound",
+        }
+    }
 }
 
 /// An object by its kind and place.
@@ -44,9 +51,10 @@ pub struct Seen {
 
 impl fmt::Display for Seen {
     fn fmt<W: fmt::Write>(&self, f: &mut fmt::Formatter<W>) -> fmt::Result {
+        let kind = self.kind.word();
         match self.place {
-            Some((x, y)) => write!(f, "{} at {x},{y}", self.kind),
-            None => write!(f, "{}", self.kind),
+            Some((x, y)) => write!(f, "{kind} at {x},{y}"),
+            None => write!(f, "{kind}"),
         }
     }
 }

@@ -4,38 +4,54 @@ use crate::fields::number_at;
 use crate::kinds::{Kind, Seen, object_seen};
 use gf_fig_tokens::FigFault;
 use std::fmt;
-use thiserror::Error;
 
 /// What is wrong with an object, and what to do.
-#[derive(Clone, Copy, Debug, PartialEq, Eq, Error)]
+#[derive(Clone, Copy, Debug, PartialEq, Eq)]
 pub enum Problem {
     /// The object is of a kind that can't be taken.
-    #[error(": delete it")]
     Kind,
-    #[error(": break it up")]
     Compound,
-    #[error(" can't be read: delete it")]
     Unreadable,
-    #[error(" has line width {0}: set it to 0")]
     LineWidth(i64),
-    #[error(" has fill style {0}: set it to 20")]
     FillStyle(i64),
-    #[error(" has colour {0}: take one of the first eight, or a user colour")]
     Colour(i64),
-    #[error(" has depth {0}: set it to 0 to 999")]
     Depth(i64),
-    #[error(" has an arrow: take it off")]
     Arrow,
-    #[error(" has {0} points: delete it")]
     Points(i64),
-    #[error(" does not end where it begins: delete it")]
     Open,
-    #[error(" has radii {0} and {1}: draw it anew")]
     Radii(i64, i64),
-    #[error(" is turned: set its angle to 0")]
     Turned,
-    #[error(" has a point beyond 10000000: move it")]
     Beyond,
+}
+
+impl fmt::Display for Problem {
+    fn fmt<W: fmt::Write>(&self, f: &mut fmt::Formatter<W>) -> fmt::Result {
+        let words = match self {
+            Problem::LineWidth(width) => {
+                return write!(f, " has line width {width}: set it to 0");
+            }
+            Problem::FillStyle(style) => {
+                return write!(f, " has fill style {style}: set it to 20");
+            }
+            Problem::Colour(number) => {
+                return write!(
+                    f,
+                    " has colour {number}: take one of the first eight, or a user colour"
+                );
+            }
+            Problem::Depth(depth) => return write!(f, " has depth {depth}: set it to 0 to 999"),
+            Problem::Points(count) => return write!(f, " has {count} points: delete it"),
+            Problem::Radii(rx, ry) => return write!(f, " has radii {rx} and {ry}: draw it anew"),
+            Problem::Kind => ": delete it",
+            Problem::Compound => ": break it up",
+            Problem::Unreadable => " can't be read: delete it",
+            Problem::Arrow => " has an arrow: take it off",
+            Problem::Open => " does not end where it begins: delete it",
+            Problem::Turned => " is turned: set its angle to 0",
+            Problem::Beyond => " has a point beyond 10000000: move it",
+        };
+        write!(f, "{words}")
+    }
 }
 
 /// An object, and what is wrong with it.
