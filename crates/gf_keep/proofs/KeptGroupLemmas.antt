@@ -1,7 +1,7 @@
 -- The visible versions that hold all of some ids, sorted, are those that are kept.
 use Rattle.std.proofs.Common.{◌≡◌, ◌≢◌, true, false, List, [], ◌∷◌, get_or, length, refl, sym}
 use Rattle.std.proofs.Common.{subst, ap, ◌∙◌, arith, inl, inr}
-use Rattle.std.specs.Prelude.{◌↔◌, AllPairs, Contains, Option, Some, IfSome, filter}
+use Rattle.std.specs.Prelude.{◌↔◌, ◌≤◌, ℕ, AllPairs, Contains, Option, Some, IfSome, filter}
 use Rattle.std.specs.FinMap.{slice_cmp-IsAntisymmetric}
 use Rattle.std.specs.List.{list_any}
 use Rattle.std.specs.Prelude.{◌==◌}
@@ -15,6 +15,7 @@ use Rattle.gf_base.proofs.FilterLemmas.{Contains-filter, list_all_from, list_all
 use Rattle.gf_base.proofs.FilterLemmas.{list_any_from, list_any_true}
 use Rattle.gf_ops.specs.declared.op.Op.{Op}
 use Rattle.gf_ops.specs.declared.op.OpId.{OpId}
+use Rattle.gf_ops.specs.declared.op.ObjectId.{ObjectId}
 use Rattle.gf_groups.specs.declared.group.Group.{Group}
 use Rattle.gf_groups.specs.Versions.{IsMade, group_cmp}
 use Rattle.gf_groups.specs.VersionList.{id_eq}
@@ -22,11 +23,13 @@ use Rattle.gf_groups.proofs.ConflictTestLemmas.{id_decided}
 use Rattle.gf_groups.proofs.GroupLemmas.{group_cmp_total}
 use Rattle.gf_groups.proofs.IdLemmas.{id_cmp_exact}
 use Rattle.gf_groups.proofs.SortedLemmas.{ties, equal_left, rising_sorted}
-use Rattle.gf_visible.specs.ShownVersions.{AreVisibleOn}
+use Rattle.gf_versions.specs.declared.ranking.TheConstants.{MOST_VERSIONS}
+use Rattle.gf_visible.specs.ShownVersions.{AreVisibleOn, HasMoreOn}
 use Rattle.gf_keep.specs.declared.keep.Keep.{Keep}
 use Rattle.gf_keep.specs.Keeping.{AreKept, IsKept}
 use Rattle.gf_keep.specs.KeepFaults.{HasNoneKept}
 use Rattle.gf_keep.specs.KeepSteps.{AreOfObject, has_all}
+use Rattle.gf_base.proofs.CountLemmas.{no_longer}
 use Rattle.gf_base.proofs.ListLemmas.{not_Contains-nil}
 
 id_in : (ids : List OpId) (i : OpId) → (list_any (id_eq i) ids ≡ true) ↔ Contains ids i
@@ -91,9 +94,10 @@ module _ (h : List Op) (k : Keep) (groups : List Group) (all : AreVisibleOn h k.
       }
 
 pub none_kept : (h : List Op) (k : Keep) (groups : List Group) → IsMade h k.object
-    → AreKept h k groups → groups ≡ [] → HasNoneKept h k
-none_kept h k groups made kept e = record {
+    → ¬ (HasMoreOn h k.object MOST_VERSIONS) → AreKept h k groups → groups ≡ [] → HasNoneKept h k
+none_kept h k groups made few kept e = record {
   made = made;
+  few = few;
   none = λ g t. not_Contains-nil g (subst (λ (gs : List Group). Contains gs g) e
       ((kept.exactly g).1 t));
 }
@@ -116,12 +120,27 @@ kept_at h k seen same items r v is all ids with given sorted e moved s =
     (e ∙ ap (λ (is : List OpId). filter (has_all is) (items v)) with) moved s
 
 pub none_found : (h : List Op) (k : Keep) {V : Type 0} (items : V → List Group) (r : Option V)
-    (v : V) → r ≡ Some v → IsMade h k.object → IfSome r (λ (v : V). AreKept h k (items v))
-    → (length (items v) == 0) ≡ true → HasNoneKept h k
-none_found h k items r v is made all empty =
-    none_kept h k (items v) made (subst (λ (z : Option _). IfSome z (λ v. AreKept h k (items v))) is
+    (v : V) → r ≡ Some v → IsMade h k.object
+    → IfSome r (λ (v : V). ¬ (HasMoreOn h k.object MOST_VERSIONS))
+    → IfSome r (λ (v : V). AreKept h k (items v)) → (length (items v) == 0) ≡ true
+    → HasNoneKept h k
+none_found h k items r v is made few all empty =
+    none_kept h k (items v) made
+    (subst (λ (z : Option _). IfSome z (λ v. ¬ (HasMoreOn h k.object MOST_VERSIONS))) is few) (subst (λ (z : Option _). IfSome z (λ v. AreKept h k (items v))) is
     all) (nothing (items v) ((Decides-eqb (length (items v)) 0).0 empty))
   where
     nothing : (gs : List Group) → length gs ≡ 0 → gs ≡ []
     nothing [] e = refl
     nothing (x ∷ xs) e = absurd (omega arith)
+
+-- at most m visible versions are not more than m
+pub few_at : (h : List Op) (o : ObjectId) (m : ℕ) {V : Type 0} (items : V → List Group)
+    (r : Option V) (v : V) → r ≡ Some v → IfSome r (λ (v : V). AreVisibleOn h o (items v))
+    → IfSome r (λ (v : V). length (items v) ≤ m) → ¬ (HasMoreOn h o m)
+few_at h o m items r v is all few more =
+    let these = subst (λ (z : Option _). IfSome z (λ v. AreVisibleOn h o (items v))) is all in
+    let short = subst (λ (z : Option _). IfSome z (λ v. length (items v) ≤ m)) is few in
+    let long = no_longer more.groups (items v) more.all.once
+    (λ g there. (these.exactly g).1 ((more.all.exactly g).0 there)) in
+    let many = more.many in
+    absurd (omega (arith, long, short, many))

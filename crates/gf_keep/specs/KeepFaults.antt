@@ -10,9 +10,10 @@ use Rattle.gf_keep.specs.declared.faults.KeepFault.TheVariants as fault
 use Rattle.gf_keep.specs.declared.keep.Keep.{Keep}
 use Rattle.gf_keep.specs.Keeping.{IsKept}
 
--- the object is there, and no version of it is kept
+-- the object is there, has at most 1,000 visible versions, and no version of it is kept
 pub record HasNoneKept (h : List Op) (k : Keep) : Type 0 where
   pub made : IsMade h k.object
+  pub few : ¬ (HasMoreOn h k.object MOST_VERSIONS)
   pub none : (g : Group) → ¬ (IsKept h k g)
 
 -- why the keep k is refused behind h; want of memory may come with any

@@ -29,6 +29,8 @@ pub(crate) fn kept_groups(
     requires { IsMade history.now.ops keep.now.object }
     ensures kept { IfOk result (λ found.
         IfSome found (λ groups. AreKept history.now.ops keep.now groups.items)) }
+    ensures few { IfOk result (λ found.
+        IfSome found (λ _. ¬ (HasMoreOn history.now.ops keep.now.object MOST_VERSIONS))) }
     ensures more { IfOk result (λ found.
         IfNone found (HasMoreOn history.now.ops keep.now.object MOST_VERSIONS)) }
 {
@@ -45,6 +47,8 @@ fn kept_of(
     requires { IsMade versions.now keep.now.object }
     ensures kept { IfOk result (λ found.
         IfSome found (λ groups. AreKept versions.now keep.now groups.items)) }
+    ensures few { IfOk result (λ found.
+        IfSome found (λ _. ¬ (HasMoreOn versions.now keep.now.object MOST_VERSIONS))) }
     ensures more { IfOk result (λ found.
         IfNone found (HasMoreOn versions.now keep.now.object MOST_VERSIONS)) }
 {
