@@ -51,26 +51,42 @@ pub(crate) fn fewest(
     kept.extend_from_slice(ids.as_slice())?;
     for id in ids.as_slice() {
         let rest = without(alloc, &kept, *id)?;
-        if !others.iter().any(|other| has_all(other, &rest)) {
+        if !is_in_one(others, &rest) {
             kept = rest;
         }
     }
     Ok(kept)
 }
 
+/// Whether one of these lists has all of these ids.
+fn is_in_one(lists: &[&[OpId]], ids: &[OpId]) -> bool {
+    for list in lists {
+        if has_all(list, ids) {
+            return true;
+        }
+    }
+    false
+}
+
 /// The ids without one of them.
 fn without(alloc: Global, ids: &[OpId], left_out: OpId) -> Result<Vec<OpId>, OutOfMemory> {
-    Ok(
-        ids.iter()
-            .copied()
-            .filter(|id| *id != left_out)
-            .collect(alloc)?,
-    )
+    let mut rest = Vec::new(alloc);
+    for id in ids {
+        if *id != left_out {
+            rest.push(*id)?;
+        }
+    }
+    Ok(rest)
 }
 
 /// Whether a list has all of these ids.
 pub(crate) fn has_all(list: &[OpId], ids: &[OpId]) -> bool {
-    ids.iter().all(|id| list.contains(id))
+    for id in ids {
+        if !list.contains(id) {
+            return false;
+        }
+    }
+    true
 }
 
 /// The aim at these operations: they, and what they are aimed at, rising.

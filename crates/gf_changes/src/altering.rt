@@ -4,8 +4,8 @@ use crate::Target;
 use crate::aiming::{aim_at, aim_to_keep, fewest, has_all, told_from};
 use crate::comparing::{moved, points_from, size_of};
 use crate::matching::Matching;
-use gf_ops::{Attr, Change, Form, History, Ids, ObjectId, OpId, Value};
-use gf_shape::OutOfMemory;
+use gf_ops::{Attr, Change, Form, History, Ids, ObjectId, OpId, Start, Value};
+use gf_shape::{OutOfMemory, Point};
 use gf_versions::Version;
 use std::alloc::Global;
 
@@ -14,7 +14,7 @@ const MOST_AIMED: usize = 1_000;
 
 /// The changes by which the versions of a history that are figures look like these, and those that
 /// hide the others. Creations and layers are not among them.
-pub(crate) fn alterations(
+pub fn alterations(
     alloc: Global,
     history: &History,
     versions: &[Version],
@@ -40,36 +40,52 @@ fn wishes_of(
 ) -> Result<Vec<Option<Value>>, OutOfMemory> {
     let mut wishes = Vec::with_capacity(alloc, versions.len())?;
     for (version, figure) in versions.iter().zip(matching.figures.iter()) {
-        let wish = match figure.and_then(|f| targets.get(f)) {
-            Some(figure) => wish_of(alloc, attribute, version, figure)?,
-            None => None,
-        };
-        wishes.push(wish)?;
+        match figure_at(targets, *figure) {
+            Some(start) => wishes.push(wish_of(alloc, attribute, version, start)?)?,
+            None => wishes.push(None)?,
+        }
     }
     Ok(wishes)
 }
 
-/// The value of an attribute that a version wants, where its figure has another one.
+/// What the figure at an index begins with.
+fn figure_at(targets: &[Target], index: Option<usize>) -> Option<&Start> {
+    match targets.get(index?) {
+        Some(figure) => Some(&figure.start),
+        None => None,
+    }
+}
+
+/// The value of an attribute that a version wants, where its figure has another one. Layers come
+/// later, and what is hidden has no figure.
 fn wish_of(
     alloc: Global,
     attribute: Attr,
     version: &Version,
-    figure: &Target,
+    start: &Start,
 ) -> Result<Option<Value>, OutOfMemory> {
-    let start = &figure.start;
-    let place = match (&version.form, &start.form) {
+    let place = place_of(version, start);
+    match attribute {
+        Attr::Place if place == Some(version.place) => Ok(None),
+        Attr::Place => Ok(place.map(Value::Place)),
+        Attr::Size if version.form == start.form => Ok(None),
+        Attr::Size => Ok(size_of(&start.form)),
+        Attr::Points if place.is_some() => Ok(None),
+        Attr::Points => points_from(alloc, version.place, start),
+        Attr::Colour if version.colour == start.colour => Ok(None),
+        Attr::Colour => Ok(Some(Value::Colour(start.colour))),
+        Attr::Layer | Attr::Shown => Ok(None),
+    }
+}
+
+/// Where a version stands that looks like its figure; None for a polygon that wants other points.
+fn place_of(version: &Version, start: &Start) -> Option<Point> {
+    match (&version.form, &start.form) {
         (Form::Polygon(old), Form::Polygon(new)) => moved(old, version.place, new, start.place),
-        _ => Some(start.place),
-    };
-    Ok(match attribute {
-        Attr::Place => place.filter(|at| *at != version.place).map(Value::Place),
-        Attr::Size if version.form != start.form => size_of(&start.form),
-        Attr::Points if place.is_none() => {
-            points_from(alloc, version.place, start)?.map(Value::Points)
+        (Form::Rect(..) | Form::Polygon(_) | Form::Circle(_) | Form::Ellipse(..), _) => {
+            Some(start.place)
         }
-        Attr::Colour if version.colour != start.colour => Some(Value::Colour(start.colour)),
-        _ => None,
-    })
+    }
 }
 
 /// Changes each version to what it wants. A change is aimed at what tells the versions that want
@@ -81,49 +97,83 @@ pub(crate) fn change_all(
     mut wishes: Vec<Option<Value>>,
     changes: &mut Vec<Change>,
 ) -> Result<(), OutOfMemory> {
-    for (i, version) in versions.iter().enumerate() {
-        let Some(value) = wishes.get_mut(i).and_then(|wish| wish.take()) else {
-            continue;
-        };
-        let object = version.key.object;
-        let told = told_from(alloc, history, versions, version)?;
-        let others = others_of(alloc, versions, &wishes, i, &value)?;
-        let ids = fewest(alloc, &told, &others)?;
-        for (other, wish) in versions.iter().zip(wishes.iter_mut()) {
-            if other.key.object == object
-                && wish.as_ref() == Some(&value)
-                && has_all(other.key.ops.as_slice(), &ids)
-            {
-                *wish = None;
-            }
+    for index in 0..versions.len() {
+        let ids = told_by(alloc, history, versions, &wishes, index)?;
+        if let Some(ids) = ids {
+            let aim = aim_at(alloc, history, &ids)?;
+            change_one(versions, &mut wishes, index, &ids, aim, changes)?;
         }
-        let aim = aim_at(alloc, history, &ids)?;
-        changes.push(Change::Set { object, value, aim })?;
     }
     Ok(())
 }
 
-/// The operations of each other version of the object of version `i` that doesn't want this value.
+/// The fewest operations that tell a version, where it wants a value, from those of its object
+/// that don't want this value.
+fn told_by(
+    alloc: Global,
+    history: &History,
+    versions: &[Version],
+    wishes: &[Option<Value>],
+    index: usize,
+) -> Result<Option<Vec<OpId>>, OutOfMemory> {
+    let (Some(version), Some(Some(value))) = (versions.get(index), wishes.get(index)) else {
+        return Ok(None);
+    };
+    let others = others_of(alloc, versions, wishes, version.key.object, value)?;
+    let told = told_from(alloc, history, versions, version)?;
+    Ok(Some(fewest(alloc, &told, &others)?))
+}
+
+/// The operations of each version of an object that doesn't want this value.
 fn others_of<'a>(
     alloc: Global,
     versions: &'a [Version],
     wishes: &[Option<Value>],
-    i: usize,
+    object: ObjectId,
     value: &Value,
 ) -> Result<Vec<&'a [OpId]>, OutOfMemory> {
     let mut others = Vec::new(alloc);
-    let Some(version) = versions.get(i) else {
-        return Ok(others);
-    };
-    for (j, other) in versions.iter().enumerate() {
-        let wants = wishes
-            .get(j)
-            .is_some_and(|wish| wish.as_ref() == Some(value));
-        if j != i && other.key.object == version.key.object && !wants {
+    for (other, wish) in versions.iter().zip(wishes.iter()) {
+        if other.key.object == object && !wants(wish, value) {
             others.push(other.key.ops.as_slice())?;
         }
     }
     Ok(others)
+}
+
+/// Whether a wish is for this value.
+fn wants(wish: &Option<Value>, value: &Value) -> bool {
+    match wish {
+        Some(wished) => wished == value,
+        None => false,
+    }
+}
+
+/// Changes a version to what it wants, with all of its object that want the same and have these
+/// operations. None of these wants it any more.
+fn change_one(
+    versions: &[Version],
+    wishes: &mut [Option<Value>],
+    index: usize,
+    ids: &[OpId],
+    aim: Ids,
+    changes: &mut Vec<Change>,
+) -> Result<(), OutOfMemory> {
+    let (Some(version), Some(wish)) = (versions.get(index), wishes.get_mut(index)) else {
+        return Ok(());
+    };
+    let object = version.key.object;
+    let Some(value) = wish.take() else {
+        return Ok(());
+    };
+    for (other, wish) in versions.iter().zip(wishes.iter_mut()) {
+        let is_met = other.key.object == object && has_all(other.key.ops.as_slice(), ids);
+        if is_met && wants(wish, &value) {
+            *wish = None;
+        }
+    }
+    changes.push(Change::Set { object, value, aim })?;
+    Ok(())
 }
 
 /// Hides each version that is no figure.
@@ -155,20 +205,18 @@ fn hide_of(
     object: ObjectId,
     changes: &mut Vec<Change>,
 ) -> Result<(), OutOfMemory> {
-    let mut shows = Vec::new(alloc);
+    let mut whole = Vec::new(alloc);
+    whole.push(shown(object, false, Ids::new(Vec::new(alloc))))?;
     for (version, figure) in versions.iter().zip(matching.figures.iter()) {
         if version.key.object == object && figure.is_some() {
             let aim = aim_to_keep(alloc, history, version)?;
             if MOST_AIMED < aim.as_slice().len() {
                 return hide_each(alloc, history, versions, matching, object, changes);
             }
-            shows.push(shown(object, true, aim))?;
+            whole.push(shown(object, true, aim))?;
         }
     }
-    changes.push(shown(object, false, Ids::new(Vec::new(alloc))))?;
-    for show in shows {
-        changes.push(show)?;
-    }
+    changes.append(&mut whole)?;
     Ok(())
 }
 
@@ -183,8 +231,11 @@ fn hide_each(
 ) -> Result<(), OutOfMemory> {
     let mut wishes = Vec::with_capacity(alloc, versions.len())?;
     for (version, figure) in versions.iter().zip(matching.figures.iter()) {
-        let is_hidden = version.key.object == object && figure.is_none();
-        wishes.push(is_hidden.then_some(Value::Shown(false)))?;
+        if version.key.object == object && figure.is_none() {
+            wishes.push(Some(Value::Shown(false)))?;
+        } else {
+            wishes.push(None)?;
+        }
     }
     change_all(alloc, history, versions, wishes, changes)
 }

@@ -1,4 +1,4 @@
-//! In which layers figures stand, so that what is in front is in front.
+//! The changes of layers, so that what is in front is in front, and the new figures.
 
 use crate::Target;
 use crate::aiming::has_all;
@@ -10,9 +10,27 @@ use gf_shape::OutOfMemory;
 use gf_versions::Version;
 use std::alloc::Global;
 
+/// The changes by which a history comes to show the figures in their order, the new ones among
+/// them. It shows these versions, and has the changes of those that it showed before.
+pub fn arranged(
+    alloc: Global,
+    history: &History,
+    before: &[Version],
+    versions: &[Version],
+    targets: &[Target],
+    matching: &Matching,
+) -> Result<Vec<Change>, OutOfMemory> {
+    let followers = followed(alloc, before, versions, matching)?;
+    let layers = layers_for(alloc, versions, targets, &followers)?;
+    let mut changes = layer_changes(alloc, history, versions, &followers, &layers)?;
+    let mut drawn = creations_of(alloc, targets, &followers, &layers)?;
+    changes.append(&mut drawn)?;
+    Ok(changes)
+}
+
 /// The layers of the figures, which are listed from the front to the back. A figure may be one of
 /// these versions.
-pub(crate) fn layers_for(
+fn layers_for(
     alloc: Global,
     versions: &[Version],
     targets: &[Target],
@@ -23,7 +41,7 @@ pub(crate) fn layers_for(
 }
 
 /// The changes by which each version gets the layer of its figure.
-pub(crate) fn layer_changes(
+fn layer_changes(
     alloc: Global,
     history: &History,
     versions: &[Version],
@@ -37,28 +55,31 @@ pub(crate) fn layer_changes(
 }
 
 /// The creations of the figures that are no versions, in these layers, from the back to the front.
-pub(crate) fn creations_of(
+fn creations_of(
     alloc: Global,
-    targets: Vec<Target>,
+    targets: &[Target],
     followers: &[Option<usize>],
     layers: &[u16],
 ) -> Result<Vec<Change>, OutOfMemory> {
     let mut creations = Vec::new(alloc);
-    let wished = followers.iter().zip(layers.iter());
-    for (figure, (follower, layer)) in targets.into_iter().zip(wished) {
-        if follower.is_none() {
-            creations.push(Change::Create(Start {
-                layer: *layer,
-                ..figure.start
-            }))?;
+    for (index, figure) in targets.iter().enumerate() {
+        if let (Some(None), Some(layer)) = (followers.get(index), layers.get(index)) {
+            creations.push(creation(alloc, &figure.start, *layer)?)?;
         }
     }
     creations.reverse();
     Ok(creations)
 }
 
+/// The creation of a figure in a layer.
+fn creation(alloc: Global, start: &Start, layer: u16) -> Result<Change, OutOfMemory> {
+    let mut start = start.copy(alloc)?;
+    start.layer = layer;
+    Ok(Change::Create(start))
+}
+
 /// Which version of the new list each figure is: the one that has all operations of the old one.
-pub(crate) fn followed(
+fn followed(
     alloc: Global,
     before: &[Version],
     versions: &[Version],
@@ -66,18 +87,25 @@ pub(crate) fn followed(
 ) -> Result<Vec<Option<usize>>, OutOfMemory> {
     let mut followers = Vec::with_capacity(alloc, matching.versions.len())?;
     for version in matching.versions.iter() {
-        let found = version.and_then(|v| before.get(v).and_then(|old| follower(old, v, versions)));
-        followers.push(found)?;
+        followers.push(follower(before, *version, versions))?;
     }
     Ok(followers)
 }
 
 /// The version of the new list that has all operations of an old one. Most keep their indices.
-fn follower(old: &Version, index: usize, versions: &[Version]) -> Option<usize> {
-    if versions.get(index).is_some_and(|new| follows(new, old)) {
-        return Some(index);
+fn follower(before: &[Version], index: Option<usize>, versions: &[Version]) -> Option<usize> {
+    let index = index?;
+    let old = before.get(index)?;
+    match versions.get(index) {
+        Some(new) if follows(new, old) => return Some(index),
+        _ => {}
     }
-    versions.iter().position(|new| follows(new, old))
+    for (place, new) in versions.iter().enumerate() {
+        if follows(new, old) {
+            return Some(place);
+        }
+    }
+    None
 }
 
 /// Whether a version has all operations of another one of its object.
@@ -94,22 +122,33 @@ fn rows_of(
 ) -> Result<Vec<Row>, OutOfMemory> {
     let mut rows = Vec::with_capacity(alloc, targets.len())?;
     for (figure, follower) in targets.iter().zip(followers.iter()) {
-        let spot = follower.and_then(|v| {
-            versions.get(v).map(|version| Spot {
-                layer: version.key.layer,
-                rank: Some(v),
-            })
-        });
-        rows.push(Row {
-            look: Look {
-                bounds: figure.bounds,
-                colour: figure.start.colour,
-            },
-            standing: standing_of(figure, spot.is_some()),
-            spot,
-        })?;
+        rows.push(row_of(figure, *follower, versions))?;
     }
     Ok(rows)
+}
+
+/// What the order of a figure depends on, which may be the version of this rank.
+fn row_of(figure: &Target, rank: Option<usize>, versions: &[Version]) -> Row {
+    let spot = spot_at(versions, rank);
+    Row {
+        look: Look {
+            bounds: figure.bounds,
+            colour: figure.start.colour,
+        },
+        standing: standing_of(figure, spot.is_some()),
+        spot,
+    }
+}
+
+/// Where the version of a rank stands.
+fn spot_at(versions: &[Version], rank: Option<usize>) -> Option<Spot> {
+    match versions.get(rank?) {
+        Some(version) => Some(Spot {
+            layer: version.key.layer,
+            rank,
+        }),
+        None => None,
+    }
 }
 
 /// Whether a figure may stay where it stands.
@@ -133,12 +172,18 @@ fn layer_wishes(
         wishes.push(None)?;
     }
     for (follower, layer) in followers.iter().zip(layers.iter()) {
-        let wish = follower.and_then(|v| wishes.get_mut(v).zip(versions.get(v)));
-        if let Some((wish, version)) = wish {
-            if version.key.layer != *layer {
-                *wish = Some(Value::Layer(*layer));
-            }
+        if let Some(rank) = *follower {
+            wish_layer(&mut wishes, versions, rank, *layer);
         }
     }
     Ok(wishes)
+}
+
+/// Has the version of a rank want this layer, where it is in another one.
+fn wish_layer(wishes: &mut [Option<Value>], versions: &[Version], rank: usize, layer: u16) {
+    if let (Some(wish), Some(version)) = (wishes.get_mut(rank), versions.get(rank)) {
+        if version.key.layer != layer {
+            *wish = Some(Value::Layer(layer));
+        }
+    }
 }

@@ -5,6 +5,9 @@ use gf_shape::{OutOfMemory, Point};
 use gf_versions::Version;
 use std::alloc::Global;
 
+/// The most points of a polygon.
+const MOST_POINTS: usize = 64;
+
 /// In which attributes a figure differs from a version of its kind.
 #[derive(Clone, Copy, PartialEq, Eq)]
 pub(crate) struct Difference {
@@ -20,37 +23,51 @@ impl Difference {
     }
 }
 
+/// The kinds of forms.
+#[derive(Clone, Copy, PartialEq, Eq)]
+enum Kind {
+    Rect,
+    Polygon,
+    Circle,
+    Ellipse,
+}
+
+fn kind_of(form: &Form) -> Kind {
+    match form {
+        Form::Rect(..) => Kind::Rect,
+        Form::Polygon(_) => Kind::Polygon,
+        Form::Circle(_) => Kind::Circle,
+        Form::Ellipse(..) => Kind::Ellipse,
+    }
+}
+
 /// In which attributes a figure differs from a version; None where the figure is of another kind.
 /// A polygon that was moved whole differs in its place alone, wherever its first point lies.
 pub(crate) fn compared(version: &Version, start: &Start) -> Option<Difference> {
+    if kind_of(&version.form) != kind_of(&start.form) {
+        return None;
+    }
     let colour = version.colour != start.colour;
-    let place = version.place != start.place;
-    let form = match (&version.form, &start.form) {
-        (Form::Polygon(old), Form::Polygon(new)) => {
-            return match moved(old, version.place, new, start.place) {
-                Some(at) => Some(Difference {
-                    place: at != version.place,
-                    form: false,
-                    colour,
-                }),
-                None if are_near_from(version.place, new, start.place) => Some(Difference {
-                    place: false,
-                    form: true,
-                    colour,
-                }),
-                None => None,
-            };
-        }
-        (Form::Rect(..), Form::Rect(..)) => version.form != start.form,
-        (Form::Circle(_), Form::Circle(_)) => version.form != start.form,
-        (Form::Ellipse(..), Form::Ellipse(..)) => version.form != start.form,
-        _ => return None,
+    let (Form::Polygon(old), Form::Polygon(new)) = (&version.form, &start.form) else {
+        return Some(Difference {
+            place: version.place != start.place,
+            form: version.form != start.form,
+            colour,
+        });
     };
-    Some(Difference {
-        place,
-        form,
-        colour,
-    })
+    match moved(old, version.place, new, start.place) {
+        Some(at) => Some(Difference {
+            place: at != version.place,
+            form: false,
+            colour,
+        }),
+        None if are_near_from(version.place, new, start.place) => Some(Difference {
+            place: false,
+            form: true,
+            colour,
+        }),
+        None => None,
+    }
 }
 
 /// Where a polygon stands that was moved whole, so that it has the new points: its new place. None
@@ -58,33 +75,45 @@ pub(crate) fn compared(version: &Version, start: &Start) -> Option<Difference> {
 pub(crate) fn moved(old: &Points, place: Point, new: &Points, start: Point) -> Option<Point> {
     let (old, new) = (old.as_slice(), new.as_slice());
     let at = minus(plus(*new.first()?, start)?, *old.first()?)?;
-    let is_step = |(p, q): (&Point, &Point)| match (plus(*p, at), plus(*q, start)) {
-        (Some(p), Some(q)) => p == q,
-        _ => false,
-    };
-    let is_moved = old.len() == new.len() && old.iter().zip(new.iter()).all(is_step);
-    if is_moved && is_near(at) {
+    if old.len() == new.len() && are_moved(old, at, new, start) && is_near(at) {
         Some(at)
     } else {
         None
     }
 }
 
-/// Whether the new points of a polygon keep their limits, seen from another place.
-fn are_near_from(place: Point, points: &Points, start: Point) -> bool {
-    points
-        .as_slice()
-        .iter()
-        .all(|p| seen_from(place, *p, start).is_some_and(is_near))
+/// Whether points that are seen from one place are the new ones, seen from another.
+fn are_moved(old: &[Point], at: Point, new: &[Point], start: Point) -> bool {
+    for (p, q) in old.iter().zip(new.iter()) {
+        match (plus(*p, at), plus(*q, start)) {
+            (Some(p), Some(q)) if p == q => {}
+            _ => return false,
+        }
+    }
+    true
 }
 
-/// The new points of a polygon, seen from the place where it stands. None where one lies too far
-/// off.
+/// Whether the new points of a polygon keep their limits, seen from another place.
+fn are_near_from(place: Point, points: &Points, start: Point) -> bool {
+    if MOST_POINTS < points.as_slice().len() {
+        return false;
+    }
+    for p in points.as_slice() {
+        match seen_from(place, *p, start) {
+            Some(p) if is_near(p) => {}
+            _ => return false,
+        }
+    }
+    true
+}
+
+/// The value by which a polygon gets new points, seen from the place where it stands. None where
+/// one lies too far off.
 pub(crate) fn points_from(
     alloc: Global,
     place: Point,
     start: &Start,
-) -> Result<Option<Points>, OutOfMemory> {
+) -> Result<Option<Value>, OutOfMemory> {
     let Form::Polygon(points) = &start.form else {
         return Ok(None);
     };
@@ -95,7 +124,7 @@ pub(crate) fn points_from(
             None => return Ok(None),
         }
     }
-    Ok(Some(Points::new(seen)))
+    Ok(Some(Value::Points(Points::new(seen))))
 }
 
 /// A point that is seen from `start`, seen from `place`.

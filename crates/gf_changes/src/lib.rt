@@ -1,9 +1,13 @@
 //! Which changes make what a history shows into a drawing that was changed elsewhere. The changes
 //! are a proposal: who makes them checks what comes of them.
 //!
-//! - [`planned`]: all changes, as a [`Plan`], from what a site shows to the figures of a drawing.
 //! - [`Target`], [`targets`]: the figures that are to be shown, from the front to the back, each
 //!   with its name, if it has one.
+//! - [`versions_of`]: the versions that are shown.
+//! - [`matched`]: which version each figure is, as a [`Matching`]; [`first_beyond`]: the first figure
+//!   that comes to be something beyond the limits of operations.
+//! - [`alterations`]: the changes of versions to what their figures are, and those that hide others.
+//! - [`arranged`]: the changes of layers, and the new figures behind these.
 #![tactic(auto)]
 
 mod aiming;
@@ -12,8 +16,11 @@ mod arranging;
 mod comparing;
 mod matching;
 mod ordering;
-mod plan;
+mod settled;
 mod target;
 
-pub use plan::{Plan, planned};
+pub use altering::alterations;
+pub use arranging::arranged;
+pub use matching::{Matching, first_beyond, matched};
+pub use settled::versions_of;
 pub use target::{Target, targets};

@@ -1,18 +1,19 @@
 //! Which version each figure is.
 
 use crate::Target;
+use crate::aiming::has_all;
 use crate::comparing::compared;
 use gf_fig_named::Named;
-use gf_ops::{Clock, OpId};
+use gf_ops::{Clock, Form, OpId};
 use gf_shape::OutOfMemory;
 use gf_versions::Version;
 use std::alloc::Global;
 
 /// Which version each figure is, and which figure each version is, by their indices in both lists.
-#[derive(Debug, Drop)]
-pub(crate) struct Matching {
-    pub(crate) versions: Vec<Option<usize>>,
-    pub(crate) figures: Vec<Option<usize>>,
+#[derive(Drop)]
+pub struct Matching {
+    pub versions: Vec<Option<usize>>,
+    pub figures: Vec<Option<usize>>,
 }
 
 /// How the figures of a drawing and versions may be one.
@@ -24,12 +25,19 @@ enum Way {
     Alike,
 }
 
+/// One pass over the figures: how a pair may be one, and in how many attributes it differs.
+#[derive(Clone, Copy)]
+struct Pass {
+    way: Way,
+    count: usize,
+}
+
 /// Finds for each figure the version that it is, if it is one. First come the versions whose name
 /// the figure has, then those that look like it. The pair that differs in fewest attributes goes
 /// first, then the figure in front, then the version above.
 ///
 /// `seen` counts the operations that the drawing knew.
-pub(crate) fn matched(
+pub fn matched(
     alloc: Global,
     versions: &[Version],
     targets: &[Target],
@@ -41,7 +49,7 @@ pub(crate) fn matched(
     };
     for way in [Way::Named, Way::Alike] {
         for count in 0..=3 {
-            match_all(&mut matching, versions, targets, seen, way, count);
+            match_all(&mut matching, versions, targets, seen, Pass { way, count });
         }
     }
     Ok(matching)
@@ -56,36 +64,69 @@ fn unmatched(alloc: Global, count: usize) -> Result<Vec<Option<usize>>, OutOfMem
     Ok(entries)
 }
 
-/// Matches what may be one in this way and differs in so many attributes.
+/// Matches what may be one in this pass.
 fn match_all(
     matching: &mut Matching,
     versions: &[Version],
     targets: &[Target],
     seen: &Clock,
-    way: Way,
-    count: usize,
+    pass: Pass,
 ) {
     // Each version before this index is matched.
     let mut first = 0;
     for (f, figure) in targets.iter().enumerate() {
-        if !is_free(&matching.versions, f) {
-            continue;
-        }
-        for (v, version) in versions.iter().enumerate().skip(first) {
-            if is_free(&matching.figures, v) && may_match(version, figure, seen, way, count) {
+        if is_free(&matching.versions, f) {
+            if let Some(v) = match_of(&matching.figures, versions, figure, seen, pass, first) {
                 matching.pair(f, v);
                 if v == first {
                     first = v.saturating_add(1);
                 }
-                break;
             }
         }
     }
 }
 
+/// The index of the first free version, from one on, that a figure may be in this pass.
+fn match_of(
+    figures: &[Option<usize>],
+    versions: &[Version],
+    figure: &Target,
+    seen: &Clock,
+    pass: Pass,
+    first: usize,
+) -> Option<usize> {
+    for (v, version) in versions.iter().enumerate().skip(first) {
+        if is_free(figures, v) && may_match(version, figure, seen, pass) {
+            return Some(v);
+        }
+    }
+    None
+}
+
+/// The index in file order of the first figure that comes to be something beyond the limits of
+/// operations: a new object, or a version with another value. A polygon that is a version keeps
+/// the place of this version.
+pub fn first_beyond(targets: &[Target], matching: &Matching) -> Option<usize> {
+    let mut first: Option<usize> = None;
+    for (f, figure) in targets.iter().enumerate() {
+        let is_new = is_free(&matching.versions, f) || !is_polygon(&figure.start.form);
+        if is_new && !figure.is_within {
+            first = Some(first.unwrap_or(figure.index).min(figure.index));
+        }
+    }
+    first
+}
+
+fn is_polygon(form: &Form) -> bool {
+    match form {
+        Form::Polygon(_) => true,
+        Form::Rect(..) | Form::Circle(_) | Form::Ellipse(..) => false,
+    }
+}
+
 /// Whether the entry of a list is there and matched with nothing.
 fn is_free(entries: &[Option<usize>], index: usize) -> bool {
-    entries.get(index).is_some_and(|other| other.is_none())
+    matches!(entries.get(index), Some(None))
 }
 
 impl Matching {
@@ -100,28 +141,28 @@ impl Matching {
     }
 }
 
-/// Whether a figure may be a version in this way, and differs in so many attributes.
-fn may_match(version: &Version, figure: &Target, seen: &Clock, way: Way, count: usize) -> bool {
-    let may = match way {
+/// Whether a figure may be a version in this pass.
+fn may_match(version: &Version, figure: &Target, seen: &Clock, pass: Pass) -> bool {
+    let may = match pass.way {
         Way::Named => match &figure.name {
             Some(name) => is_named(version, name),
             None => false,
         },
-        Way::Alike => count == 0 || count <= 2 && is_newer(version.key.object.0, seen),
+        Way::Alike => { pass.count == 0 || pass.count <= 2 && is_newer(version.key.object.0, seen) }
     };
-    may && compared(version, &figure.start).is_some_and(|difference| difference.count() == count)
+    if !may {
+        return false;
+    }
+    match compared(version, &figure.start) {
+        Some(difference) => difference.count() == pass.count,
+        None => false,
+    }
 }
 
 /// Whether a name may be that of a version.
 fn is_named(version: &Version, name: &Named) -> bool {
-    let ops = version.key.ops.as_slice();
     version.key.object == name.name.object
-        && name
-            .name
-            .telling
-            .as_slice()
-            .iter()
-            .all(|id| ops.contains(id))
+        && has_all(version.key.ops.as_slice(), name.name.telling.as_slice())
 }
 
 /// Whether a clock does not count the operation of this id.

@@ -74,18 +74,25 @@ pub(crate) fn layers_of(alloc: Global, rows: &[Row]) -> Result<Vec<u16>, OutOfMe
 fn raised(alloc: Global, rows: &[Row]) -> Result<Option<Vec<u16>>, OutOfMemory> {
     let mut from_back = copied(alloc, rows)?;
     from_back.reverse();
-    Ok(raise_all(alloc, &from_back)?.map(|mut layers| {
-        layers.reverse();
-        layers
-    }))
+    match raise_all(alloc, &from_back)? {
+        Some(mut layers) => {
+            layers.reverse();
+            Ok(Some(layers))
+        }
+        None => Ok(None),
+    }
 }
 
 /// The layers of figures that are lowered from the front, if these keep the limits.
 fn lowered(alloc: Global, rows: &[Row]) -> Result<Option<Vec<u16>>, OutOfMemory> {
-    Ok(raise_all(alloc, &mirrored(alloc, rows)?)?.map(|mut layers| {
-        mirror_all(&mut layers);
-        layers
-    }))
+    let mirrored = mirrored(alloc, rows)?;
+    match raise_all(alloc, &mirrored)? {
+        Some(mut layers) => {
+            mirror_all(&mut layers);
+            Ok(Some(layers))
+        }
+        None => Ok(None),
+    }
 }
 
 /// A copy of rows.
@@ -102,14 +109,25 @@ fn mirrored(alloc: Global, rows: &[Row]) -> Result<Vec<Row>, OutOfMemory> {
     let mut copies = Vec::with_capacity(alloc, rows.len())?;
     for row in rows {
         copies.push(Row {
-            spot: row.spot.map(|spot| Spot {
-                layer: TOP.saturating_sub(spot.layer),
-                rank: spot.rank.map(|rank| usize::MAX - rank),
-            }),
-            ..*row
+            look: row.look,
+            standing: row.standing,
+            spot: mirrored_spot(row.spot),
         })?;
     }
     Ok(copies)
+}
+
+/// A spot with what is above beneath.
+fn mirrored_spot(spot: Option<Spot>) -> Option<Spot> {
+    let spot = spot?;
+    let rank = match spot.rank {
+        Some(rank) => Some(usize::MAX - rank),
+        None => None,
+    };
+    Some(Spot {
+        layer: TOP.saturating_sub(spot.layer),
+        rank,
+    })
 }
 
 /// Turns layers round the middle of all.
@@ -121,10 +139,14 @@ fn mirror_all(layers: &mut Vec<u16>) {
 
 /// How many versions get another layer.
 fn changed(rows: &[Row], layers: &[u16]) -> usize {
-    rows.iter()
-        .zip(layers.iter())
-        .filter(|(row, layer)| row.spot.is_some_and(|spot| spot.layer != **layer))
-        .count()
+    let mut count = 0usize;
+    for (row, layer) in rows.iter().zip(layers.iter()) {
+        match row.spot {
+            Some(spot) if spot.layer != *layer => count = count.saturating_add(1),
+            _ => {}
+        }
+    }
+    count
 }
 
 /// Layers for so many figures that are listed from the front to the back, all given anew.
@@ -160,17 +182,29 @@ fn raise_all(alloc: Global, rows: &[Row]) -> Result<Option<Vec<u16>>, OutOfMemor
 /// What is above `top` is above all that is done.
 fn spot_of(row: &Row, top: Option<Spot>, done: &[(Look, Spot)], front: &[Row]) -> Option<Spot> {
     if let Some(spot) = row.spot {
-        let is_on_top = top.is_none_or(|top| is_above(spot, top));
+        let is_on_top = match top {
+            Some(top) => is_above(spot, top),
+            None => true,
+        };
         if (is_on_top || is_over(spot, row, done, true)) && stays(spot, row, done, front) {
             return Some(spot);
         }
     }
-    let seen = || between(row, done, front, true);
-    let layer = match between(row, done, front, false).or_else(seen) {
-        Some(layer) => layer,
-        None => next_above(highest_behind(row, done, true))?,
-    };
-    Some(Spot { layer, rank: None })
+    Some(Spot {
+        layer: new_layer(row, done, front)?,
+        rank: None,
+    })
+}
+
+/// The layer of a figure that gets a new one, between all others or those that matter.
+fn new_layer(row: &Row, done: &[(Look, Spot)], front: &[Row]) -> Option<u16> {
+    if let Some(layer) = between(row, done, front, false) {
+        return Some(layer);
+    }
+    if let Some(layer) = between(row, done, front, true) {
+        return Some(layer);
+    }
+    next_above(highest_behind(row, done, true))
 }
 
 /// Whether a figure that is above those behind it that matter stays where it stands.
@@ -249,16 +283,24 @@ fn room(low: Option<u16>, high: Option<u16>) -> Option<u16> {
 
 /// Whether a spot is above each of the figures behind, or of those that matter.
 fn is_over(spot: Spot, row: &Row, done: &[(Look, Spot)], matters: bool) -> bool {
-    done.iter().all(|(look, other)| is_above(spot, *other) || matters && !matter(row.look, *look))
+    for (look, other) in done {
+        if !is_above(spot, *other) && (!matters || matter(row.look, *look)) {
+            return false;
+        }
+    }
+    true
 }
 
 /// Whether a spot is beneath each of the kept figures in front, or of those that matter.
 fn is_under(spot: Spot, row: &Row, front: &[Row], matters: bool) -> bool {
-    front.iter().all(|other| {
-        other.standing != Standing::Kept
-            || other.spot.is_none_or(|o| is_above(o, spot))
-            || matters && !matter(row.look, other.look)
-    })
+    for other in front {
+        if let (Standing::Kept, Some(kept)) = (other.standing, other.spot) {
+            if !is_above(kept, spot) && (!matters || matter(row.look, other.look)) {
+                return false;
+            }
+        }
+    }
+    true
 }
 
 /// Whether a spot is surely above another one.

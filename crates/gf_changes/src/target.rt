@@ -2,36 +2,42 @@
 
 use gf_fig_named::Named;
 use gf_figures::Drawing;
-use gf_ops::{Change, Start};
+use gf_ops::Start;
 use gf_shape::{Bounds, OutOfMemory, Outline, Shape};
 use std::alloc::Global;
 
 /// A figure that is to be shown: what an object of it begins with, and its name, if it has one.
-#[derive(Debug, Drop)]
+#[derive(Drop)]
 pub struct Target {
     pub start: Start,
+    /// Whether an object can begin so, within the limits of operations.
+    pub is_within: bool,
     pub depth: u16,
     pub bounds: Bounds,
     pub name: Option<Named>,
+    /// The index of the figure in file order.
+    pub index: usize,
 }
 
-/// The figures of a drawing from the front to the back. The creations and the names are those of
-/// the figures in file order. A figure beyond the names has none.
+/// The figures of a drawing from the front to the back. What they begin with and the names are
+/// those of the figures in file order. A figure beyond the names has none.
 pub fn targets(
     alloc: Global,
     drawing: &Drawing<Outline>,
-    creations: Vec<Change>,
+    starts: Vec<(Start, bool)>,
     names: Vec<Option<Named>>,
 ) -> Result<Vec<Target>, OutOfMemory> {
-    let mut rows = Vec::with_capacity(alloc, creations.len())?;
+    let mut rows = Vec::with_capacity(alloc, starts.len())?;
     let mut names = names.into_iter();
-    for (figure, creation) in drawing.figures().iter().zip(creations) {
-        if let Change::Create(start) = creation {
+    for (index, (start, is_within)) in starts.into_iter().enumerate() {
+        if let Some(figure) = drawing.figures().get(index) {
             rows.push(Target {
                 start,
+                is_within,
                 depth: figure.depth,
                 bounds: figure.shape.bounds(),
                 name: names.next().flatten(),
+                index,
             })?;
         }
     }

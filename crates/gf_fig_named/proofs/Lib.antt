@@ -4,3 +4,4 @@ pub mod RaisedLemmas
 pub mod NamedLemmas
 pub mod NameLemmas
 pub mod TextLemmas
+pub mod KnownLemmas

@@ -1,8 +1,6 @@
 //! The names of the figures of a text. What is promised of them is that the reading is safe.
 
-ghost use Rattle.std.specs.Prelude.{◌≤◌, IfSome};
-
-use crate::spelling::{spelt, spelt_id};
+use crate::spelling::{push_ids, spelt_id, spelt_number};
 use crate::{Name, Named};
 use gf_base::OutOfMemory;
 use gf_fig_tokens::{cut_line, cut_word, is_comment, whole};
@@ -31,7 +29,7 @@ const POLYLINE: u32 = 15;
 const MOST_POINTS: u32 = 65_536;
 
 /// What comment lines name.
-#[derive(Debug, Drop)]
+#[derive(Drop)]
 struct Above {
     object: ObjectId,
     depth: u16,
@@ -39,7 +37,7 @@ struct Above {
 }
 
 /// The names of the figures so far, and where the next line stands.
-#[derive(Debug, Drop)]
+#[derive(Drop)]
 struct Scan {
     figures: Vec<Option<Named>>,
     /// What the comments directly above name.
@@ -106,7 +104,7 @@ impl Scan {
             self.left -= 1;
             if self.left == 0 && self.counts {
                 self.counts = false;
-                self.left = 2 * spelt(token, MOST_POINTS).unwrap_or(0);
+                self.left = 2 * spelt_number(token, MOST_POINTS).unwrap_or(0);
             }
             return Ok(());
         }
@@ -173,16 +171,4 @@ fn spelt_depth(word: &[u8]) -> Option<u16> {
         return None;
     }
     Some(depth)
-}
-
-/// Adds the ids that the words of a text spell.
-fn push_ids(ids: &mut Vec<OpId>, text: &[u8]) -> Result<(), OutOfMemory> {
-    let mut rest = text;
-    while let Some((word, after)) = cut_word(rest) {
-        if let Some(id) = spelt_id(word) {
-            ids.push(id)?;
-        }
-        rest = after;
-    }
-    Ok(())
 }

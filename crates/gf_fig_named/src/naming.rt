@@ -19,7 +19,7 @@ use std::alloc::Global;
 
 /// What a figure is called: its object, and the operations that tell its version from the other
 /// visible ones of the object.
-#[derive(Debug, Drop)]
+#[derive(Drop)]
 pub struct Name {
     pub object: ObjectId,
     pub telling: Ids,

@@ -1,9 +1,8 @@
 //! The reading of names.
 
-ghost use Rattle.std.specs.Prelude.{Contains, IfOk, IfSome};
-ghost use Rattle.gf_ops.specs.OperationOrder.{entry};
-ghost use Rattle.gf_fig_tokens.specs.Layout.{lines};
-ghost use Rattle.gf_fig_named.specs.Comments.{knows_comment};
+ghost use Rattle.std.specs.Prelude.{IfNone, IfOk, IfSome};
+ghost use Rattle.gf_ops.specs.declared.op.Clock.{Clock};
+ghost use Rattle.gf_fig_named.specs.Known.{AreCounts, TellsKnown};
 
 use crate::Name;
 use crate::figures::figure_names;
@@ -13,14 +12,14 @@ use gf_ops::Clock;
 use std::alloc::Global;
 
 /// The name of a figure, and the depth at which it was written.
-#[derive(Debug, Drop)]
+#[derive(Drop)]
 pub struct Named {
     pub name: Name,
     pub depth: u16,
 }
 
 /// What the comments of a FIG text tell.
-#[derive(Debug, Drop)]
+#[derive(Drop)]
 pub struct Names {
     /// How many operations of each site were known, where the text tells this.
     pub known: Option<Clock>,
@@ -31,8 +30,9 @@ pub struct Names {
 /// What the comments of a FIG text tell, in time linear in its length. A comment that is no name
 /// names nothing.
 pub fn read_names(alloc: Global, fig: &[u8]) -> Result<Names, OutOfMemory>
-    ensures { IfOk result (λ names. IfSome names.known (λ c.
-        Contains (lines fig.now) (knows_comment (entry c)))) }
+    ensures told { IfOk result (λ names. IfSome names.known (TellsKnown fig.now)) }
+    ensures none { IfOk result (λ names. IfNone names.known
+        ((c : Clock) → AreCounts c → ¬ (TellsKnown fig.now c))) }
 {
     let known = known(alloc, fig)?;
     let figures = figure_names(alloc, fig)?;

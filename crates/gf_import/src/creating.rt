@@ -85,14 +85,15 @@ fn creation(
         (figure_colour drawing.now.table figure.now))) }
 {
     let start = start_of(alloc, drawing, figure)?;
-    Ok(match fault(&start) {
+    Ok(match start_fault(&start) {
         None => Ok(Change::Create(start)),
         Some(fault) => Err(fault),
     })
 }
 
-/// The first limit that the beginning of an object breaks.
-fn fault(start: &Start) -> Option<FigureFault>
+/// The first limit of operations that the beginning of an object breaks: of its place, then of its
+/// form.
+pub fn start_fault(start: &Start) -> Option<FigureFault>
     ensures { result ≡ start_fault start.now }
 {
     if is_near(start.place) {

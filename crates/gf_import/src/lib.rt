@@ -5,7 +5,7 @@
 //! - [`creations`]: a creation for each figure of a drawing; [`CreationError`] tells why there are
 //!   none, and [`FigureFault`] which limit a figure breaks.
 //! - [`start_of`]: what the object of a figure begins with; [`form_of`] and [`place_of`] give its
-//!   parts.
+//!   parts, and [`start_fault`] tells which limit it breaks.
 //! - [`the_creations_paint_the_drawing`], [`what_is_imported_paints_the_drawing`]: the laws of the
 //!   history that a site makes of the creations.
 //! - [`what_can_be_imported_is_not_refused`]: the law that a success rules a refusal out.
@@ -20,7 +20,7 @@ mod laws;
 mod making;
 mod run;
 
-pub use creating::creations;
+pub use creating::{creations, start_fault};
 pub use faults::{CreationError, FigureFault};
 pub use import_error::ImportError;
 pub use laws::{

@@ -13,3 +13,4 @@ pub mod ExactLemmas
 pub mod ApartLemmas
 pub mod MovedLemmas
 pub mod AddedLemmas
+pub mod AlikeLemmas

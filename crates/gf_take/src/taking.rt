@@ -1,6 +1,9 @@
 //! What a site makes of changes, and the check that it then shows a drawing.
 
-ghost use Rattle.std.specs.Prelude.{◌≡◌, ◌++◌, true, false, [], All, IfOk, IfErr, OnOk};
+ghost use Rattle.std.specs.Prelude.{◌≡◌, ◌++◌, true, false, All, IfOk, IfErr, List, OnOk};
+ghost use Rattle.gf_ops.specs.declared.op.Op.{Op};
+ghost use Rattle.gf_ops.specs.ValidHistory.{IsValid};
+ghost use Rattle.gf_versions.specs.Ranking.{AreRanked};
 ghost use Rattle.gf_shape.specs.ShapeLaws.{IsLawful};
 ghost use Rattle.gf_drawing.specs.CanonicalDrawing.{PaintsAsFig};
 ghost use Rattle.gf_take.specs.ShownDrawing.{LooksLike, ShowsDrawing};
@@ -12,9 +15,9 @@ use crate::TakeError;
 use crate::matching::{look_alike, show_figures};
 use gf_figures::Drawing;
 use gf_ops::{Change, Op};
-use gf_shape::Outline;
+use gf_shape::{AnyShape, OutOfMemory, Outline};
 use gf_site::{AuthorFault, Site};
-use gf_versions::MOST_VERSIONS;
+use gf_versions::{MOST_VERSIONS, Placed};
 use gf_visible::ranked_within;
 use std::alloc::Global;
 
@@ -68,19 +71,20 @@ fn make(site: &mut Site, ops: &mut Vec<Op>, change: Change) -> Result<(), TakeEr
     }
 }
 
-/// Whether the visible versions of a site look like the figures of a drawing, one like the other.
-pub fn looks_like(alloc: Global, site: &Site, drawing: &Drawing<Outline>) -> Result<bool, TakeError>
-    ensures alike { IfOk result (λ alike. alike ≡ true → LooksLike site.now.ops drawing.now) }
-    ensures other { IfOk result (λ alike. alike ≡ false
+/// Whether the visible versions of a history look like the figures of a drawing, one like the
+/// other.
+pub fn looks_like(
+    alloc: Global,
+    items: &[Placed<AnyShape>],
+    drawing: &Drawing<Outline>,
+) -> Result<bool, OutOfMemory>
+    ensures alike { (h : List Op) → IsValid h → AreRanked h items.now
+        → IfOk result (λ alike. alike ≡ true → LooksLike h drawing.now) }
+    ensures other { (h : List Op) → AreRanked h items.now
         → All (λ f. IsLawful f.shape) drawing.now.figures
-        → ¬ (LooksLike site.now.ops drawing.now)) }
-    ensures err { IfErr result
-        (RefusesTake site.now.number site.now.ops [] drawing.now) }
+        → IfOk result (λ alike. alike ≡ false → ¬ (LooksLike h drawing.now)) }
 {
-    match ranked_within(alloc, &site.versions(), MOST_VERSIONS)? {
-        None => Err(TakeError::TooManyFigures),
-        Some(ranked) => Ok(look_alike(alloc, &ranked.items, drawing)?),
-    }
+    Ok(look_alike(alloc, items, drawing)?)
 }
 
 /// Checks that a site shows a drawing.

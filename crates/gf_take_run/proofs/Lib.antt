@@ -1,3 +1,5 @@
 pub mod PartingLemmas
 pub mod SeenLemmas
 pub mod TakeLemmas
+pub mod CountingLemmas
+pub mod ShownLemmas

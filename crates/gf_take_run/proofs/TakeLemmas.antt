@@ -33,12 +33,25 @@ use Rattle.gf_run.specs.declared.studio_error.StudioError.TheVariants as studio
 use Rattle.gf_run.specs.RefusedRuns.{IsBetween}
 use Rattle.gf_run.specs.RefusedRuns.{IsOfInput, IsOfRun}
 use Rattle.gf_run.specs.RunAnswers.{WritesPrefix}
-use Rattle.gf_shape.specs.ShapeLaws.{IsLawful}
 use Rattle.gf_site.specs.MadeEach.{MakesEach, next as each_next, none as each_none}
 use Rattle.gf_take.specs.Bases.{IsBase}
 use Rattle.gf_take.specs.ShownDrawing.{LooksLike}
-use Rattle.gf_take.specs.Taking.{Takes}
+use Rattle.gf_take.specs.Taking.{HasRefusal, RefusesTake, Takes}
 use Rattle.gf_take.specs.declared.take_error.TakeError.TheVariants as taking
+use Rattle.gf_take.proofs.AlikeLemmas.{like_shows, like_takes}
+use Rattle.gf_take.proofs.FrontLemmas.{shown_paints}
+use Rattle.gf_fig_read.specs.FigGrammar.{Reads}
+use Rattle.gf_fig_read.proofs.LawfulLemmas.{lawful_read}
+use Rattle.gf_ops.specs.declared.op.ObjectId.{ObjectId}
+use Rattle.gf_ops.specs.ValidHistory.{IsValid}
+use Rattle.gf_site.specs.declared.faults.AuthorFault.{AuthorFault}
+use Rattle.gf_site.specs.declared.faults.AuthorFault.TheVariants as author
+use Rattle.std.proofs.lemmas.List.Elements.{All-nil}
+use Rattle.gf_take_run.specs.declared.drawing_error.DrawingError.{DrawingError}
+use Rattle.gf_take_run.specs.declared.drawing_error.DrawingError.TheVariants as error
+use Rattle.gf_take_run.specs.declared.making.MadeFrom.{MadeFrom}
+use Rattle.gf_take_run.specs.OnShown.{IsOnShown}
+use Rattle.gf_take_run.specs.ToldNumbers.{CountsObjects, alters, creates, hides}
 use Rattle.gf_take_run.specs.declared.take_run_error.TakeRunError.{TakeRunError}
 use Rattle.gf_take_run.specs.declared.take_run_error.TakeRunError.TheVariants as refused
 use Rattle.gf_take_run.specs.declared.taken.Taken.{Taken}
@@ -46,11 +59,12 @@ use Rattle.gf_take_run.specs.declared.taking.TakenText.{TakenText}
 use Rattle.gf_take_run.specs.Parting.{IsParted}
 use Rattle.gf_take_run.specs.SeenDrawing.{AreThere, IsAbsent, IsNewer, since_drawing}
 use Rattle.gf_take_run.specs.TakenText.{DenotesDrawing, DenotesLines}
-use Rattle.gf_take_run.specs.TakeRun.{HasBlockingLine, HasNewer, IsTakeOf, ReadsBoth}
-use Rattle.gf_take_run.specs.TakeRun.{RefusesChanges}
+use Rattle.gf_take_run.specs.TakeRun.{GoesBeyond, HasBase, HasBlockingLine, HasNewer, IsExhausted}
+use Rattle.gf_take_run.specs.TakeRun.{IsTakeOf, LooksOtherwise, ReadsBoth, ShowsMany}
 use Rattle.gf_take_run.specs.TakeRun.{RefusesParts, RefusesTaking, TakesText, of_take, input, parts}
-use Rattle.gf_take_run.specs.TakeSteps.{AreWritten, RefusesDrawing, RefusesMaking, TakesParts}
-use Rattle.gf_take_run.specs.TakeSteps.{TakesSo}
+use Rattle.gf_take_run.specs.TakeSteps.{AreWritten, MakesFrom, RefusesBase, RefusesDrawing}
+use Rattle.gf_take_run.specs.TakeSteps.{RefusesMaking, RefusesPlan, RefusesSeen, TakesFrom}
+use Rattle.gf_take_run.specs.TakeSteps.{TakesParts, TakesSo, told}
 
 -- ---- what was read
 
@@ -124,24 +138,16 @@ written_denotes new text w =
 
 -- ---- what is taken
 
--- of no changes no operations are made
-makes_none : {m : ℕ} {base : List Op} {changes : List Change} {new : List Op}
-    → MakesEach m base changes new → changes ≡ [] → new ≡ []
-makes_none each_none e = refl
-makes_none (each_next c in_range accepted more) e = absurd cc
-
 -- what is told with equal numbers and histories is told of the site
 pub takes_so : (s n m : ℕ) (h k : List Op) (drawing : Drawn) (seen : Clock) (t : TakenText)
-    (base : List Op) (changes : List Change) (new : List Op) → n ≡ s → m ≡ n → k ≡ h
+    (base new : List Op) → n ≡ s → m ≡ n → k ≡ h
     → AreThere seen k → ((a x : Op) → ¬ (IsNewer n seen k a x)) → IsBase n seen k base
-    → Takes m base changes new drawing
-    → (All (λ f. IsLawful f.shape) drawing.figures → LooksLike base drawing → changes ≡ [])
-    → AreWritten new t.text.items → t.taken.made ≡ made_of new
-    → t.taken.since ≡ since_drawing n seen k
+    → TakesFrom m base drawing new → AreWritten new t.text.items → t.taken.made ≡ made_of new
+    → CountsObjects alters new t.taken.changed → CountsObjects hides new t.taken.hidden
+    → CountsObjects creates new t.taken.drawn → t.taken.since ≡ since_drawing n seen k
     → AreThinOf base t.taken.thin.items → TakesSo s h drawing seen t
-takes_so s n m h k drawing seen t base changes new ns mn kh there young is_base takes none_planned
-    written made
-    since thin =
+takes_so s n m h k drawing seen t base new ns mn kh there young is_base from written made
+    changed hidden drawn since thin =
     subst (λ (l : List Op). TakesSo s l drawing seen t) kh
     (subst (λ i. TakesSo i k drawing seen t) ns (record {
       new = new;
@@ -150,59 +156,143 @@ takes_so s n m h k drawing seen t base changes new ns mn kh there young is_base 
         young = young;
         base = base;
         is_base = is_base;
-        changes = changes;
-        takes = subst (λ i. Takes i base changes new drawing) mn takes;
-        same = λ lawful like. makes_none takes.makes (none_planned lawful like);
+        changes = from.changes;
+        takes = subst (λ i. Takes i base from.changes new drawing) mn from.takes;
+        shown = from.shown;
+        same = from.same;
       };
       written = written;
       made = made;
+      changed = changed;
+      hidden = hidden;
+      drawn = drawn;
       since = since;
       thin = thin;
     }))
 
--- why a site makes nothing is why it takes nothing
-making_refuses : (s : ℕ) (h base : List Op) (changes : List Change) (drawing : Drawn) (seen : Clock)
-    (e : TakeRunError) → IsBase s seen h base → RefusesMaking s base changes drawing e
-    → RefusesDrawing s h drawing seen e
-making_refuses s h base changes drawing seen (refused.Refused why) b f =
-    record { base = base; is_base = b; changes = changes; refused = f }
-making_refuses s h base changes drawing seen refused.TooManyFigures b f =
-    record { base = base; is_base = b; changes = changes; refused = f }
-making_refuses s h base changes drawing seen refused.Differs b f =
-    record { base = base; is_base = b; changes = changes; refused = f }
-making_refuses s h base changes drawing seen refused.Unnamed b f = absurd f
-making_refuses s h base changes drawing seen refused.NoDrawing b f = absurd f
-making_refuses s h base changes drawing seen (refused.Absent i) b f = absurd f
-making_refuses s h base changes drawing seen (refused.Older i j) b f = absurd f
-making_refuses s h base changes drawing seen (refused.Waits i j) b f = absurd f
-making_refuses s h base changes drawing seen (refused.Fig x) b f = absurd f
-making_refuses s h base changes drawing seen (refused.Figure x) b f = absurd f
-making_refuses s h base changes drawing seen (refused.Run studio.OutOfMemory) b f = tt
-making_refuses s h base changes drawing seen (refused.Run (studio.Line m why)) b f = absurd f
-making_refuses s h base changes drawing seen (refused.Run (studio.Dropped id fault)) b f = absurd f
-making_refuses s h base changes drawing seen (refused.Run (studio.Fig x)) b f = absurd f
-making_refuses s h base changes drawing seen (refused.Run (studio.Compile x)) b f = absurd f
-making_refuses s h base changes drawing seen (refused.Run (studio.NoObject o)) b f = absurd f
-making_refuses s h base changes drawing seen (refused.Run studio.ReadFailed) b f = absurd f
-making_refuses s h base changes drawing seen (refused.Run studio.TooLong) b f = absurd f
-making_refuses s h base changes drawing seen (refused.Run studio.WriteFailed) b f = absurd f
+-- of no changes no operations are made
+pub makes_none : {m : ℕ} {base : List Op} {changes : List Change} {new : List Op}
+    → MakesEach m base changes new → changes ≡ [] → new ≡ []
+makes_none each_none e = refl
+makes_none (each_next c in_range accepted more) e = absurd cc
+
+-- what looks like the drawing takes it by nothing
+pub takes_nothing : (s : ℕ) (b : List Op) (text : List ℕ) (d : Drawn) (thin : List ObjectId)
+    (made : MadeFrom) → AreAccepted b → IsValid b → LooksLike b d → Reads text d
+    → made.ops.items ≡ [] → made.thin.items ≡ thin → AreThinOf b thin → MakesFrom s b d made
+takes_nothing s b text d thin made accepted valid like reads none is are = record {
+  taken = subst (TakesFrom s b d) (sym none) (record {
+    changes = [];
+    takes = like_takes s b d accepted valid like
+        (shown_paints b d (lawful_read text d reads) (like_shows b d like));
+    shown = All-nil (IsOnShown b);
+    same = λ l. refl;
+  });
+  thin = subst (AreThinOf b) (sym is) are;
+}
+
+-- what does not look like the drawing takes it by its changes
+pub takes_changes : (s : ℕ) (b : List Op) (d : Drawn) (changes : List Change)
+    (ops : List Op) (thin : List ObjectId) (made : MadeFrom) → ¬ (LooksLike b d)
+    → All (IsOnShown b) changes → Takes s b changes ops d → made.ops.items ≡ ops
+    → made.thin.items ≡ thin → AreThinOf b thin → MakesFrom s b d made
+takes_changes s b d changes ops thin made other shown takes is same are = record {
+  taken = subst (TakesFrom s b d) (sym is) (record {
+    changes = changes;
+    takes = takes;
+    shown = shown;
+    same = λ l. absurd (other l);
+  });
+  thin = subst (AreThinOf b) (sym same) are;
+}
+
+-- why no changes are planned is why a base that looks otherwise makes nothing
+pub plan_refuses : (s : ℕ) (b : List Op) (fig : List ℕ) (d : Drawn) (e : DrawingError)
+    → ¬ (LooksLike b d) → RefusesPlan fig d e → RefusesBase s b fig d e
+plan_refuses s b fig d error.OutOfMemory other f = tt
+plan_refuses s b fig d error.Differs other f = other
+plan_refuses s b fig d (error.Figure broken) other f =
+    (record { otherwise = other; breaks = f.0 }, f.1)
+plan_refuses s b fig d error.TooManyFigures other f = absurd f
+plan_refuses s b fig d error.Exhausted other f = absurd f
+plan_refuses s b fig d (error.Absent i) other f = absurd f
+plan_refuses s b fig d (error.Older i j) other f = absurd f
+
+-- why changes are not made is why a base that looks otherwise makes nothing
+pub making_refuses : (s : ℕ) (b : List Op) (fig : List ℕ) (d : Drawn) (changes : List Change)
+    (e : DrawingError) → ¬ (LooksLike b d) → RefusesMaking s b changes e
+    → RefusesBase s b fig d e
+making_refuses s b fig d changes error.OutOfMemory other f = tt
+making_refuses s b fig d changes error.Differs other f = other
+making_refuses s b fig d changes error.Exhausted other f =
+    record { otherwise = other; changes = changes; refused = f }
+making_refuses s b fig d changes (error.Figure broken) other f = absurd f
+making_refuses s b fig d changes error.TooManyFigures other f = absurd f
+making_refuses s b fig d changes (error.Absent i) other f = absurd f
+making_refuses s b fig d changes (error.Older i j) other f = absurd f
+
+-- why changes are refused by a site
+pub refusal_of : (s : ℕ) (b : List Op) (changes : List Change) (d : Drawn) (why : AuthorFault)
+    → RefusesTake s b changes d (taking.Refused why) → why ≡ author.Exhausted
+    → HasRefusal s b changes author.Exhausted
+refusal_of s b changes d why f e = subst (HasRefusal s b changes) e f
+
+-- why the base makes nothing is why nothing is taken behind it
+base_refuses : (s : ℕ) (h base : List Op) (fig : List ℕ) (d : Drawn) (seen : Clock)
+    (e : DrawingError) → AreThere seen h → ((a x : Op) → ¬ (IsNewer s seen h a x))
+    → IsBase s seen h base → RefusesBase s base fig d e → RefusesDrawing s h fig d seen e
+base_refuses s h base fig d seen e there young is = cases e
+  where
+    from : (Such : List Op → Drawn → Type 0) → Such base d → HasBase s Such h d seen
+    from Such such = record {
+      there = there;
+      young = young;
+      base = base;
+      is_base = is;
+      such = such;
+    }
+
+    cases : (e : DrawingError) → RefusesBase s base fig d e → RefusesDrawing s h fig d seen e
+    cases error.OutOfMemory f = tt
+    cases error.TooManyFigures f = from ShowsMany f
+    cases (error.Figure broken) f = (from (GoesBeyond broken.object broken.fault) f.0, f.1)
+    cases error.Exhausted f = from (IsExhausted s) f
+    cases error.Differs f = from LooksOtherwise f
+    cases (error.Absent i) f = absurd f
+    cases (error.Older i j) f = absurd f
 
 -- why a site makes nothing is why another of its number and history takes nothing
-pub making_refused : (s n m : ℕ) (h k base : List Op) (changes : List Change) (drawing : Drawn)
-    (seen : Clock) (e : TakeRunError) → n ≡ s → m ≡ n → k ≡ h → IsBase n seen k base
-    → RefusesMaking m base changes drawing e → RefusesDrawing s h drawing seen e
-making_refused s n m h k base changes drawing seen e ns mn kh b f =
-    subst (λ (l : List Op). RefusesDrawing s l drawing seen e) kh
-    (subst (λ i. RefusesDrawing i k drawing seen e) ns
-    (making_refuses n k base changes drawing seen e b
-    (subst (λ i. RefusesMaking i base changes drawing e) mn f)))
+pub base_refused : (s n m : ℕ) (h k base : List Op) (fig : List ℕ) (d : Drawn) (seen : Clock)
+    (e : DrawingError) → n ≡ s → m ≡ n → k ≡ h → AreThere seen k
+    → ((a x : Op) → ¬ (IsNewer n seen k a x)) → IsBase n seen k base
+    → RefusesBase m base fig d e → RefusesDrawing s h fig d seen e
+base_refused s n m h k base fig d seen e ns mn kh there young is f =
+    subst (λ (l : List Op). RefusesDrawing s l fig d seen e) kh
+    (subst (λ i. RefusesDrawing i k fig d seen e) ns
+    (base_refuses n k base fig d seen e there young is
+    (subst (λ i. RefusesBase i base fig d e) mn f)))
+
+-- why the drawing is refused for what it knew
+pub seen_refused : (s n : ℕ) (h k : List Op) (fig : List ℕ) (d : Drawn) (seen : Clock)
+    (e : DrawingError) → n ≡ s → k ≡ h → RefusesSeen n k seen e → RefusesDrawing s h fig d seen e
+seen_refused s n h k fig d seen e ns kh f =
+    subst (λ (l : List Op). RefusesDrawing s l fig d seen e) kh
+    (subst (λ i. RefusesDrawing i k fig d seen e) ns (cases e f))
+  where
+    cases : (e : DrawingError) → RefusesSeen n k seen e → RefusesDrawing n k fig d seen e
+    cases (error.Absent i) f = f
+    cases (error.Older i j) f = f d
+    cases error.OutOfMemory f = absurd f
+    cases error.TooManyFigures f = absurd f
+    cases (error.Figure broken) f = absurd f
+    cases error.Exhausted f = absurd f
+    cases error.Differs f = absurd f
 
 module _ (s n : ℕ) (number : n ≡ s) (lines fig : List ℕ) (h : List Op)
     (read : DenotesLines s lines h)
     (drawing : Drawn) (seen : Clock) (drawn : DenotesDrawing fig drawing seen) where
-  pub parts_taken : (r : Result TakenText TakeRunError) → IfOk r (TakesSo n h drawing seen)
-      → IfOk r (TakesParts s lines fig)
-  parts_taken (Ok t) p = record {
+  pub parts_taken : (t : TakenText) → TakesSo n h drawing seen t → TakesParts s lines fig t
+  parts_taken t p = record {
     history = h;
     read = read;
     drawing = drawing;
@@ -210,7 +300,6 @@ module _ (s n : ℕ) (number : n ≡ s) (lines fig : List ℕ) (h : List Op)
     drawn = drawn;
     takes = subst (λ i. TakesSo i h drawing seen t) number p;
   }
-  parts_taken (Err e) p = tt
 
   both : (Such : List Op → Drawn → Clock → Type 0) → Such h drawing seen
       → ReadsBoth s lines fig Such
@@ -223,62 +312,30 @@ module _ (s n : ℕ) (number : n ≡ s) (lines fig : List ℕ) (h : List Op)
     such = such;
   }
 
-  refuses_own : (e : TakeRunError) → RefusesDrawing s h drawing seen e → RefusesParts s lines fig e
-  refuses_own (refused.Absent i) f = both (λ h drawing seen. IsAbsent seen h i) f
-  refuses_own (refused.Older i j) f = both (HasNewer s i j) f
-  refuses_own refused.TooManyFigures f = inr (both (RefusesChanges s taking.TooManyFigures) f)
-  refuses_own (refused.Refused why) f = both (RefusesChanges s (taking.Refused why)) f
-  refuses_own refused.Differs f = both (RefusesChanges s taking.Differs) f
-  refuses_own refused.Unnamed f = tt
-  refuses_own refused.NoDrawing f = absurd f
-  refuses_own (refused.Waits i j) f = absurd f
-  refuses_own (refused.Fig faults) f = absurd f
-  refuses_own (refused.Figure broken) f = absurd f
-  refuses_own (refused.Run studio.OutOfMemory) f = tt
-  refuses_own (refused.Run (studio.Line m why)) f = absurd f
-  refuses_own (refused.Run (studio.Dropped id fault)) f = absurd f
-  refuses_own (refused.Run (studio.Fig x)) f = absurd f
-  refuses_own (refused.Run (studio.Compile x)) f = absurd f
-  refuses_own (refused.Run (studio.NoObject o)) f = absurd f
-  refuses_own (refused.Run studio.ReadFailed) f = absurd f
-  refuses_own (refused.Run studio.TooLong) f = absurd f
-  refuses_own (refused.Run studio.WriteFailed) f = absurd f
+  refuses_own : (e : DrawingError) → RefusesDrawing s h fig drawing seen e
+      → RefusesParts s lines fig (told e)
+  refuses_own (error.Absent i) f = both (λ h drawing seen. IsAbsent seen h i) f
+  refuses_own (error.Older i j) f = both (HasNewer s i j) f
+  refuses_own error.TooManyFigures f = inr (both (HasBase s ShowsMany) f)
+  refuses_own (error.Figure broken) f =
+      (both (HasBase s (GoesBeyond broken.object broken.fault)) f.0, f.1)
+  refuses_own error.Exhausted f = both (HasBase s (IsExhausted s)) f
+  refuses_own error.Differs f = both (HasBase s LooksOtherwise) f
+  refuses_own error.OutOfMemory f = tt
 
-  pub parts_refused : (r : Result TakenText TakeRunError)
-      → IfErr r (RefusesDrawing n h drawing seen)
-      → IfErr r (RefusesParts s lines fig)
-  parts_refused (Ok t) p = tt
-  parts_refused (Err e) p =
-      refuses_own e (subst (λ i. RefusesDrawing i h drawing seen e) number p)
+  pub parts_refused : (e : DrawingError) → RefusesDrawing n h fig drawing seen e
+      → RefusesParts s lines fig (told e)
+  parts_refused e p = refuses_own e (subst (λ i. RefusesDrawing i h fig drawing seen e) number p)
 
 -- why a drawing is not taken comes between the last read and the first write
-drawing_between : (s : ℕ) (h : List Op) (drawing : Drawn) (seen : Clock) (e : TakeRunError)
-    → RefusesDrawing s h drawing seen e → IfSome (of_take e) IsBetween
-drawing_between s h drawing seen (refused.Absent i) f = tt
-drawing_between s h drawing seen (refused.Older i j) f = tt
-drawing_between s h drawing seen refused.TooManyFigures f = tt
-drawing_between s h drawing seen (refused.Refused why) f = tt
-drawing_between s h drawing seen refused.Differs f = tt
-drawing_between s h drawing seen refused.Unnamed f = tt
-drawing_between s h drawing seen refused.NoDrawing f = tt
-drawing_between s h drawing seen (refused.Waits i j) f = tt
-drawing_between s h drawing seen (refused.Fig faults) f = tt
-drawing_between s h drawing seen (refused.Figure broken) f = tt
-drawing_between s h drawing seen (refused.Run studio.OutOfMemory) f = tt
-drawing_between s h drawing seen (refused.Run (studio.Line m why)) f = absurd f
-drawing_between s h drawing seen (refused.Run (studio.Dropped id fault)) f = absurd f
-drawing_between s h drawing seen (refused.Run (studio.Fig x)) f = absurd f
-drawing_between s h drawing seen (refused.Run (studio.Compile x)) f = absurd f
-drawing_between s h drawing seen (refused.Run (studio.NoObject o)) f = absurd f
-drawing_between s h drawing seen (refused.Run studio.ReadFailed) f = absurd f
-drawing_between s h drawing seen (refused.Run studio.TooLong) f = absurd f
-drawing_between s h drawing seen (refused.Run studio.WriteFailed) f = absurd f
-
-pub parts_between : (s : ℕ) (h : List Op) (drawing : Drawn) (seen : Clock)
-    (r : Result TakenText TakeRunError) → IfErr r (RefusesDrawing s h drawing seen)
-    → IfErr r (λ e. IfSome (of_take e) IsBetween)
-parts_between s h drawing seen (Ok t) p = tt
-parts_between s h drawing seen (Err e) p = drawing_between s h drawing seen e p
+pub told_between : (e : DrawingError) → IfSome (of_take (told e)) IsBetween
+told_between error.OutOfMemory = tt
+told_between (error.Absent i) = tt
+told_between (error.Older i j) = tt
+told_between error.TooManyFigures = tt
+told_between (error.Figure broken) = tt
+told_between error.Exhausted = tt
+told_between error.Differs = tt
 
 -- ---- the whole text
 
@@ -302,6 +359,9 @@ module _ (s : ℕ) (bytes lines fig : List ℕ) (parted : IsParted bytes lines f
     is = p.takes.written.is;
     denotes = written_denotes p.takes.new t.text.items p.takes.written;
     made = p.takes.made;
+    changed = p.takes.changed;
+    hidden = p.takes.hidden;
+    drawn = p.takes.drawn;
     since = p.takes.since;
     thin = p.takes.thin;
   }

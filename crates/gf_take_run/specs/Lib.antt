@@ -1,6 +1,10 @@
 pub mod Parting
 pub mod PartingSteps
 pub mod SeenDrawing
+pub mod OnShown
+pub mod ShownItems
+pub mod ToldNumbers
+pub mod CountedChanges
 pub mod TakenText
 pub mod TakeRun
 pub mod TakeSteps

@@ -5,13 +5,7 @@ use Rattle.gf_ops.specs.declared.op.Op.{Op}
 use Rattle.gf_ops.specs.declared.op.OpId.{OpId}
 use Rattle.gf_ops.specs.declared.op.Clock.{Clock}
 use Rattle.gf_ops.specs.OperationOrder.{IsSite, Precedes, count_of, entry}
-use Rattle.gf_fig_tokens.specs.Layout.{lines}
-use Rattle.gf_fig_named.specs.Comments.{knows_comment}
 use Rattle.gf_edit.specs.declared.made.Made.{Made}
-
--- a comment of the FIG text tells that it knew so many operations of each site
-abbrev pub Knows : List ℕ → Clock → Type 0
-Knows fig seen = Contains (lines fig) (knows_comment (entry seen))
 
 -- h has all operations that the clock counts
 abbrev pub AreThere : Clock → List Op → Type 0

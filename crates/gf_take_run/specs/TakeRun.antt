@@ -1,5 +1,7 @@
 -- What the run of a take writes, and why it is refused (this project's choice).
-use Rattle.std.specs.Prelude.{◌≡◌, ◌⊎◌, ◌<◌, ℕ, List, Option, None, Some, length, ⊤}
+use Rattle.std.specs.Prelude.{◌≡◌, ◌⊎◌, ◌<◌, ◌≤◌, ℕ, ◌+◌, List, Option, None, Some, length}
+use Rattle.std.specs.Prelude.{slice_get}
+use Rattle.gf_shape.specs.declared.outline.Outline.{Outline}
 use Rattle.gf_streams.specs.TextLines.{numbered_lines}
 use Rattle.gf_ops.specs.declared.op.Op.{Op}
 use Rattle.gf_ops.specs.declared.op.OpId.{OpId}
@@ -14,8 +16,12 @@ use Rattle.gf_fig_faults.specs.DrawingFaults.{AreFaults, HasFirst, most_told}
 use Rattle.gf_fig_read.specs.FaultLines.{BeginsOn}
 use Rattle.gf_fig_read.specs.FigGrammar.{Reads}
 use Rattle.gf_fig_read.specs.Objects.{Drawn}
-use Rattle.gf_import.specs.declared.faults.CreationError.TheVariants as creation
-use Rattle.gf_import.specs.ImportRun.{HasNoCreations}
+use Rattle.gf_figures.specs.declared.figure.Figure.{Figure}
+use Rattle.gf_site.specs.declared.faults.AuthorFault.TheVariants as author
+use Rattle.gf_visible.specs.ShownVersions.{HasMoreVisible}
+use Rattle.gf_import.specs.declared.faults.FigureFault.{FigureFault}
+use Rattle.gf_import.specs.CreationFaults.{figure_fault}
+use Rattle.gf_fig_named.specs.Known.{AreCounts, TellsKnown}
 use Rattle.gf_run.specs.declared.studio_error.StudioError.{StudioError}
 use Rattle.gf_run.specs.RefusedRuns.{IsOfRun, RefusesReading}
 use Rattle.gf_run.specs.RunAnswers.{WritesText}
@@ -23,25 +29,28 @@ use Rattle.gf_edit.specs.EditRun.{IsFirstBlocking}
 use Rattle.gf_edit.specs.MadeOperations.{made_of}
 use Rattle.gf_edit.specs.Making.{written_lines}
 use Rattle.gf_take.specs.Bases.{IsBase}
-use Rattle.gf_take.specs.Taking.{RefusesTake}
-use Rattle.gf_take.specs.declared.take_error.TakeError.{TakeError}
-use Rattle.gf_take.specs.declared.take_error.TakeError.TheVariants as take
+use Rattle.gf_take.specs.ShownDrawing.{LooksLike}
+use Rattle.gf_take.specs.Taking.{HasRefusal}
 use Rattle.gf_take_run.specs.declared.take_run_error.TakeRunError.{TakeRunError}
 use Rattle.gf_take_run.specs.declared.take_run_error.TakeRunError.TheVariants as refused
 use Rattle.gf_take_run.specs.declared.taken.Taken.{Taken}
 use Rattle.gf_take_run.specs.Parting.{BeginsFig, IsParted}
-use Rattle.gf_take_run.specs.SeenDrawing.{IsAbsent, IsNewer, since_drawing}
+use Rattle.gf_take_run.specs.SeenDrawing.{AreThere, IsAbsent, IsNewer, since_drawing}
 use Rattle.gf_take_run.specs.TakenText.{DenotesDrawing, DenotesLines, DenotesTake}
+use Rattle.gf_take_run.specs.ToldNumbers.{CountsObjects, alters, creates, hides}
 
 -- the text has the lines of the new operations that site s takes of the bytes, and denotes these.
--- Their first and last are told, and those that the site made since the drawing was written. So are
--- the polygons of its base that xfig does not keep
+-- Their first and last are told, how many objects they change, hide and create, and what the site
+-- made since the drawing was written. So are the polygons of its base that xfig does not keep
 pub record TakesText (s : ℕ) (bytes text : List ℕ) (taken : Taken) : Type 0 where
   pub new : List Op
   pub denoted : DenotesTake s bytes new
   pub is : text ≡ written_lines new
   pub denotes : AreLinesOf (numbered_lines text) new
   pub made : taken.made ≡ made_of new
+  pub changed : CountsObjects alters new taken.changed
+  pub hidden : CountsObjects hides new taken.hidden
+  pub drawn : CountsObjects creates new taken.drawn
   pub since : taken.since ≡ since_drawing s denoted.seen denoted.history
   pub thin : AreThinOf denoted.taken.base taken.thin.items
 
@@ -63,11 +72,24 @@ pub record HasBlockingLine (s : ℕ) (lines : List ℕ) (i j : OpId) : Type 0 wh
   pub named : i ≡ op.id
   pub waits : j ≡ waits_for history op
 
+-- the lines denote a history for site s, and this holds of it
+pub record ReadsLines (s : ℕ) (lines : List ℕ) (Such : List Op → Type 0) : Type 0 where
+  pub history : List Op
+  pub read : DenotesLines s lines history
+  pub such : Such history
+
 -- the FIG text reads as a drawing of more than 1,000 figures
 pub record HasManyFigures (fig : List ℕ) : Type 0 where
   pub drawing : Drawn
   pub reads : Reads fig drawing
   pub many : MOST_VERSIONS < length drawing.figures
+
+-- the FIG text reads as a drawing of at most 1,000 figures, and does not tell what this knew
+pub record IsUnnamed (fig : List ℕ) : Type 0 where
+  pub drawing : Drawn
+  pub reads : Reads fig drawing
+  pub few : length drawing.figures ≤ MOST_VERSIONS
+  pub silent : (c : Clock) → AreCounts c → ¬ (TellsKnown fig c)
 
 -- both parts were read, and this holds of the history and what the drawing knew
 pub record ReadsBoth (s : ℕ) (lines fig : List ℕ)
@@ -79,13 +101,42 @@ pub record ReadsBoth (s : ℕ) (lines fig : List ℕ)
   pub drawn : DenotesDrawing fig drawing seen
   pub such : Such history drawing seen
 
--- site s, with the base of what the drawing knew, is to make some changes, and this is why not
-pub record RefusesChanges (s : ℕ) (e : TakeError) (h : List Op) (drawing : Drawn) (seen : Clock)
-    : Type 0 where
+-- all that the drawing knew is in h, no operation of site s is newer, and this holds of the base
+pub record HasBase (s : ℕ) (Such : List Op → Drawn → Type 0) (h : List Op) (drawing : Drawn)
+    (seen : Clock) : Type 0 where
+  pub there : AreThere seen h
+  pub young : (a x : Op) → ¬ (IsNewer s seen h a x)
   pub base : List Op
   pub is_base : IsBase s seen h base
+  pub such : Such base drawing
+
+-- the base shows more versions than a drawing has
+abbrev pub ShowsMany : List Op → Drawn → Type 0
+ShowsMany base drawing = HasMoreVisible base MOST_VERSIONS
+
+-- the base does not look like the drawing
+abbrev pub LooksOtherwise : List Op → Drawn → Type 0
+LooksOtherwise base drawing = ¬ (LooksLike base drawing)
+
+-- the figure of an object of the drawing breaks this limit, counted from 1 with the colours
+pub record BreaksLimit (object : ℕ) (fault : FigureFault) (drawing : Drawn) : Type 0 where
+  pub index : ℕ
+  pub figure : Figure Outline
+  pub at : slice_get drawing.figures index ≡ Some figure
+  pub number : object ≡ length drawing.table + index + 1
+  pub broken : figure_fault drawing.table figure ≡ Some fault
+
+-- the base does not look like the drawing, of which a figure breaks a limit
+pub record GoesBeyond (object : ℕ) (fault : FigureFault) (base : List Op) (drawing : Drawn)
+    : Type 0 where
+  pub otherwise : LooksOtherwise base drawing
+  pub breaks : BreaksLimit object fault drawing
+
+-- the base does not look like the drawing, and site s makes no more operations behind some
+pub record IsExhausted (s : ℕ) (base : List Op) (drawing : Drawn) : Type 0 where
+  pub otherwise : LooksOtherwise base drawing
   pub changes : List Change
-  pub refused : RefusesTake s base changes drawing e
+  pub refused : HasRefusal s base changes author.Exhausted
 
 -- an operation of the site under the id i knows one of another site under j, and the drawing did
 -- not
@@ -101,21 +152,19 @@ pub record HasNewer (s : ℕ) (i j : OpId) (h : List Op) (drawing : Drawn) (seen
 abbrev pub RefusesParts : ℕ → List ℕ → List ℕ → TakeRunError → Type 0
 RefusesParts s lines fig (refused.Run e) = RefusesReading lines e
 RefusesParts s lines fig (refused.Waits i j) = HasBlockingLine s lines i j
-RefusesParts s lines fig (refused.Fig faults) =
-    HasFirst fig faults × AreFaults most_told None fig faults
-RefusesParts s lines fig (refused.Figure broken) =
-    HasNoCreations fig (creation.Figure broken.object broken.fault)
-    × BeginsOn fig broken.object broken.line
-RefusesParts s lines fig refused.TooManyFigures = HasManyFigures fig
-    ⊎ ReadsBoth s lines fig (RefusesChanges s take.TooManyFigures)
-RefusesParts s lines fig refused.Unnamed = ⊤
+RefusesParts s lines fig (refused.Fig faults) = ReadsLines s lines
+    (λ h. HasFirst fig faults × AreFaults most_told None fig faults)
+RefusesParts s lines fig refused.TooManyFigures = ReadsLines s lines (λ h. HasManyFigures fig)
+    ⊎ ReadsBoth s lines fig (HasBase s ShowsMany)
+RefusesParts s lines fig refused.Unnamed = ReadsLines s lines (λ h. IsUnnamed fig)
 RefusesParts s lines fig (refused.Absent i) =
     ReadsBoth s lines fig (λ h drawing seen. IsAbsent seen h i)
 RefusesParts s lines fig (refused.Older i j) = ReadsBoth s lines fig (HasNewer s i j)
-RefusesParts s lines fig (refused.Refused why) =
-    ReadsBoth s lines fig (RefusesChanges s (take.Refused why))
-RefusesParts s lines fig refused.Differs =
-    ReadsBoth s lines fig (RefusesChanges s take.Differs)
+RefusesParts s lines fig (refused.Figure broken) =
+    ReadsBoth s lines fig (HasBase s (GoesBeyond broken.object broken.fault))
+    × BeginsOn fig broken.object broken.line
+RefusesParts s lines fig refused.Exhausted = ReadsBoth s lines fig (HasBase s (IsExhausted s))
+RefusesParts s lines fig refused.Differs = ReadsBoth s lines fig (HasBase s LooksOtherwise)
 RefusesParts s lines fig refused.NoDrawing = ⊥
 
 -- the bytes are these two parts, and nothing is taken of them

@@ -1,5 +1,5 @@
 -- What a take makes of what was read. No public clause cites this module.
-use Rattle.std.specs.Prelude.{◌≡◌, ◌≢◌, ◌<◌, ℕ, List, Contains, Ok, ⊤}
+use Rattle.std.specs.Prelude.{◌≡◌, ◌≢◌, ◌<◌, ℕ, List, [], All, Contains, Ok, ⊤}
 use Rattle.gf_ops.specs.declared.op.Op.{Op}
 use Rattle.gf_ops.specs.declared.op.OpId.{OpId}
 use Rattle.gf_ops.specs.declared.op.Clock.{Clock}
@@ -12,19 +12,47 @@ use Rattle.gf_fig_read.specs.Objects.{Drawn}
 use Rattle.gf_run.specs.declared.studio_error.StudioError.TheVariants as studio
 use Rattle.gf_edit.specs.MadeOperations.{made_of}
 use Rattle.gf_edit.specs.Making.{written_lines}
-use Rattle.gf_take.specs.Taking.{RefusesTake}
-use Rattle.gf_take.specs.declared.take_error.TakeError.TheVariants as take
+use Rattle.gf_fig_read.specs.FaultLines.{BeginsOn}
+use Rattle.gf_site.specs.declared.faults.AuthorFault.TheVariants as author
+use Rattle.gf_take.specs.ShownDrawing.{LooksLike}
+use Rattle.gf_take.specs.Taking.{HasRefusal, Takes}
+use Rattle.gf_take_run.specs.declared.drawing_error.DrawingError.{DrawingError}
+use Rattle.gf_take_run.specs.declared.drawing_error.DrawingError.TheVariants as error
+use Rattle.gf_take_run.specs.declared.counting.Numbers.{Numbers}
+use Rattle.gf_take_run.specs.declared.making.MadeFrom.{MadeFrom}
+use Rattle.gf_take_run.specs.OnShown.{IsOnShown}
+use Rattle.gf_take_run.specs.ToldNumbers.{CountsObjects, alters, creates, hides}
 use Rattle.gf_take_run.specs.declared.take_run_error.TakeRunError.{TakeRunError}
 use Rattle.gf_take_run.specs.declared.take_run_error.TakeRunError.TheVariants as refused
 use Rattle.gf_take_run.specs.declared.taking.TakenText.{TakenText}
 use Rattle.gf_take_run.specs.SeenDrawing.{IsAbsent, IsNewer, since_drawing}
 use Rattle.gf_take_run.specs.TakenText.{DenotesDrawing, DenotesLines, TakesDrawing}
-use Rattle.gf_take_run.specs.TakeRun.{HasNewer, RefusesChanges}
+use Rattle.gf_take_run.specs.TakeRun.{BreaksLimit, GoesBeyond, HasBase, HasNewer, IsExhausted}
+use Rattle.gf_take_run.specs.TakeRun.{LooksOtherwise, ShowsMany}
 
 -- the text has the lines of operations, each of which is read again
 pub record AreWritten (new : List Op) (text : List ℕ) : Type 0 where
   pub is : text ≡ written_lines new
   pub reads : (a : Op) → Contains new a → denoted (op_text a) ≡ Ok a
+
+-- site s makes new operations behind its base b, each of an object that b shows, and shows the
+-- drawing. It makes none where b looks like the drawing
+pub record TakesFrom (s : ℕ) (b : List Op) (drawing : Drawn) (new : List Op) : Type 0 where
+  pub changes : List Change
+  pub takes : Takes s b changes new drawing
+  pub shown : All (IsOnShown b) changes
+  pub same : LooksLike b drawing → new ≡ []
+
+-- what is made of a drawing, and the polygons of the base b that xfig does not keep
+pub record MakesFrom (s : ℕ) (b : List Op) (drawing : Drawn) (made : MadeFrom) : Type 0 where
+  pub taken : TakesFrom s b drawing made.ops.items
+  pub thin : AreThinOf b made.thin.items
+
+-- the operations are counted
+pub record AreCounted (new : List Op) (numbers : Numbers) : Type 0 where
+  pub changed : CountsObjects alters new numbers.changed
+  pub hidden : CountsObjects hides new numbers.hidden
+  pub drawn : CountsObjects creates new numbers.drawn
 
 -- site s takes operations of the drawing behind what it knew of h, and they are written and told
 pub record TakesSo (s : ℕ) (h : List Op) (drawing : Drawn) (seen : Clock) (t : TakenText)
@@ -33,35 +61,64 @@ pub record TakesSo (s : ℕ) (h : List Op) (drawing : Drawn) (seen : Clock) (t :
   pub taken : TakesDrawing s h drawing seen new
   pub written : AreWritten new t.text.items
   pub made : t.taken.made ≡ made_of new
+  pub changed : CountsObjects alters new t.taken.changed
+  pub hidden : CountsObjects hides new t.taken.hidden
+  pub drawn : CountsObjects creates new t.taken.drawn
   pub since : t.taken.since ≡ since_drawing s seen h
   pub thin : AreThinOf taken.base t.taken.thin.items
 
--- why site s takes nothing of the drawing
-abbrev pub RefusesDrawing : ℕ → List Op → Drawn → Clock → TakeRunError → Type 0
-RefusesDrawing s h drawing seen (refused.Run studio.OutOfMemory) = ⊤
-RefusesDrawing s h drawing seen (refused.Absent i) = IsAbsent seen h i
-RefusesDrawing s h drawing seen (refused.Older i j) = HasNewer s i j h drawing seen
-RefusesDrawing s h drawing seen refused.TooManyFigures =
-    RefusesChanges s take.TooManyFigures h drawing seen
-RefusesDrawing s h drawing seen (refused.Refused why) =
-    RefusesChanges s (take.Refused why) h drawing seen
-RefusesDrawing s h drawing seen refused.Differs = RefusesChanges s take.Differs h drawing seen
-RefusesDrawing s h drawing seen other = ⊥
+-- why site s makes nothing of the drawing behind its base
+abbrev pub RefusesBase : ℕ → List Op → List ℕ → Drawn → DrawingError → Type 0
+RefusesBase s b fig drawing error.OutOfMemory = ⊤
+RefusesBase s b fig drawing error.TooManyFigures = ShowsMany b drawing
+RefusesBase s b fig drawing (error.Figure broken) =
+    GoesBeyond broken.object broken.fault b drawing × BeginsOn fig broken.object broken.line
+RefusesBase s b fig drawing error.Exhausted = IsExhausted s b drawing
+RefusesBase s b fig drawing error.Differs = LooksOtherwise b drawing
+RefusesBase s b fig drawing (error.Absent i) = ⊥
+RefusesBase s b fig drawing (error.Older i j) = ⊥
 
--- why site s doesn't make these changes behind its base, or does not show the drawing then
-abbrev pub RefusesMaking : ℕ → List Op → List Change → Drawn → TakeRunError → Type 0
-RefusesMaking s b changes drawing (refused.Run studio.OutOfMemory) = ⊤
-RefusesMaking s b changes drawing (refused.Refused why) =
-    RefusesTake s b changes drawing (take.Refused why)
-RefusesMaking s b changes drawing refused.TooManyFigures =
-    RefusesTake s b changes drawing take.TooManyFigures
-RefusesMaking s b changes drawing refused.Differs = RefusesTake s b changes drawing take.Differs
-RefusesMaking s b changes drawing other = ⊥
+-- why site s takes nothing of the drawing, which reads so
+abbrev pub RefusesDrawing : ℕ → List Op → List ℕ → Drawn → Clock → DrawingError → Type 0
+RefusesDrawing s h fig drawing seen error.OutOfMemory = ⊤
+RefusesDrawing s h fig drawing seen (error.Absent i) = IsAbsent seen h i
+RefusesDrawing s h fig drawing seen (error.Older i j) = HasNewer s i j h drawing seen
+RefusesDrawing s h fig drawing seen error.TooManyFigures = HasBase s ShowsMany h drawing seen
+RefusesDrawing s h fig drawing seen (error.Figure broken) =
+    HasBase s (GoesBeyond broken.object broken.fault) h drawing seen
+    × BeginsOn fig broken.object broken.line
+RefusesDrawing s h fig drawing seen error.Exhausted = HasBase s (IsExhausted s) h drawing seen
+RefusesDrawing s h fig drawing seen error.Differs = HasBase s LooksOtherwise h drawing seen
+
+-- why no changes are planned, where the base does not look like the drawing
+abbrev pub RefusesPlan : List ℕ → Drawn → DrawingError → Type 0
+RefusesPlan fig drawing error.OutOfMemory = ⊤
+RefusesPlan fig drawing error.Differs = ⊤
+RefusesPlan fig drawing (error.Figure broken) =
+    BreaksLimit broken.object broken.fault drawing × BeginsOn fig broken.object broken.line
+RefusesPlan fig drawing other = ⊥
+
+-- why site s does not make these changes behind its base, and show the drawing
+abbrev pub RefusesMaking : ℕ → List Op → List Change → DrawingError → Type 0
+RefusesMaking s b changes error.OutOfMemory = ⊤
+RefusesMaking s b changes error.Differs = ⊤
+RefusesMaking s b changes error.Exhausted = HasRefusal s b changes author.Exhausted
+RefusesMaking s b changes other = ⊥
+
+-- what is told of a fault of the drawing
+abbrev pub told : DrawingError → TakeRunError
+told error.OutOfMemory = refused.Run studio.OutOfMemory
+told (error.Absent i) = refused.Absent i
+told (error.Older i j) = refused.Older i j
+told error.TooManyFigures = refused.TooManyFigures
+told (error.Figure broken) = refused.Figure broken
+told error.Exhausted = refused.Exhausted
+told error.Differs = refused.Differs
 
 -- why a site refuses a drawing for what it knew
-abbrev pub RefusesSeen : ℕ → List Op → Clock → TakeRunError → Type 0
-RefusesSeen s h seen (refused.Absent i) = IsAbsent seen h i
-RefusesSeen s h seen (refused.Older i j) = (drawing : Drawn) → HasNewer s i j h drawing seen
+abbrev pub RefusesSeen : ℕ → List Op → Clock → DrawingError → Type 0
+RefusesSeen s h seen (error.Absent i) = IsAbsent seen h i
+RefusesSeen s h seen (error.Older i j) = (drawing : Drawn) → HasNewer s i j h drawing seen
 RefusesSeen s h seen other = ⊥
 
 -- of h, the operation a of site s came after the drawing, and knows one under the id i of another

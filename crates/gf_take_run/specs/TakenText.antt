@@ -1,7 +1,6 @@
 -- What is taken of a text: new operations of one site, which show the drawing that the text ends
 -- with (this project's choice, over causal delivery).
-use Rattle.std.specs.Prelude.{◌≡◌, ℕ, List, [], ◌++◌, All}
-use Rattle.gf_shape.specs.ShapeLaws.{IsLawful}
+use Rattle.std.specs.Prelude.{◌≡◌, ◌≤◌, ℕ, List, [], ◌++◌, All, length}
 use Rattle.gf_streams.specs.TextLines.{numbered_lines}
 use Rattle.gf_ops.specs.declared.op.Op.{Op}
 use Rattle.gf_ops.specs.declared.op.Clock.{Clock}
@@ -10,11 +9,14 @@ use Rattle.gf_causal.specs.DeliveredPart.{HaveSame}
 use Rattle.gf_replay.specs.Denoting.{AreLinesOf}
 use Rattle.gf_fig_read.specs.FigGrammar.{Reads}
 use Rattle.gf_fig_read.specs.Objects.{Drawn}
+use Rattle.gf_versions.specs.declared.ranking.TheConstants.{MOST_VERSIONS}
+use Rattle.gf_fig_named.specs.Known.{TellsKnown}
 use Rattle.gf_take.specs.Bases.{AreRead, IsBase}
 use Rattle.gf_take.specs.ShownDrawing.{LooksLike}
 use Rattle.gf_take.specs.Taking.{Takes}
 use Rattle.gf_take_run.specs.Parting.{IsParted}
-use Rattle.gf_take_run.specs.SeenDrawing.{AreThere, IsNewer, Knows}
+use Rattle.gf_take_run.specs.OnShown.{IsOnShown}
+use Rattle.gf_take_run.specs.SeenDrawing.{AreThere, IsNewer}
 
 -- the lines denote operations, which deliver the history, and none blocks site s
 pub record DenotesLines (s : ℕ) (lines : List ℕ) (history : List Op) : Type 0 where
@@ -22,14 +24,16 @@ pub record DenotesLines (s : ℕ) (lines : List ℕ) (history : List Op) : Type 
   pub denoted : AreLinesOf (numbered_lines lines) ops
   pub read : AreRead s ops history
 
--- the FIG text reads as the drawing, and tells that it knew the operations that the clock counts
+-- the FIG text reads as the drawing, of at most 1,000 figures, and tells that it knew the operations
+-- that the clock counts
 pub record DenotesDrawing (fig : List ℕ) (drawing : Drawn) (seen : Clock) : Type 0 where
   pub reads : Reads fig drawing
-  pub knows : Knows fig seen
+  pub few : length drawing.figures ≤ MOST_VERSIONS
+  pub knows : TellsKnown fig seen
 
 -- site s makes the new operations behind the base of what the drawing knew of the history. All that
--- the drawing knew is there, and no operation of the site knows more of others. None is made where
--- the base looks like the drawing, whose figures are lawful
+-- the drawing knew is there, and no operation of the site knows more of others. Each change is of
+-- an object that the base shows, or creates one. None is made where the base looks like the drawing
 pub record TakesDrawing (s : ℕ) (history : List Op) (drawing : Drawn) (seen : Clock)
     (new : List Op) : Type 0 where
   pub there : AreThere seen history
@@ -38,7 +42,8 @@ pub record TakesDrawing (s : ℕ) (history : List Op) (drawing : Drawn) (seen : 
   pub is_base : IsBase s seen history base
   pub changes : List Change
   pub takes : Takes s base changes new drawing
-  pub same : All (λ f. IsLawful f.shape) drawing.figures → LooksLike base drawing → new ≡ []
+  pub shown : All (IsOnShown base) changes
+  pub same : LooksLike base drawing → new ≡ []
 
 -- the bytes are operation lines and a FIG text behind them, of which site s takes new operations
 pub record DenotesTake (s : ℕ) (bytes : List ℕ) (new : List Op) : Type 0 where

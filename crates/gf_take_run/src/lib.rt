@@ -9,11 +9,16 @@
 #![tactic(auto)]
 
 mod broken_limit;
+mod counting;
+mod drawing_error;
 mod laws;
-mod losing;
+mod making;
 mod parting;
+mod planning;
+mod reading;
 mod run;
 mod seeing;
+mod showing;
 mod take_run_error;
 mod taken;
 mod taking;

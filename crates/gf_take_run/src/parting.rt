@@ -12,7 +12,7 @@ use std::alloc::Global;
 const BEGINNING: &[u8] = b"#FIG";
 
 /// Operation lines, and the FIG text behind them.
-#[derive(Debug, Drop)]
+#[derive(Drop)]
 pub(crate) struct Parts {
     pub(crate) lines: Vec<u8>,
     pub(crate) fig: Vec<u8>,

@@ -8,20 +8,20 @@ ghost use Rattle.gf_take_run.specs.SeenDrawing.{AreThere, IsNewer, since_drawing
 ghost use Rattle.gf_take.specs.Reaching.{AreReached};
 ghost use Rattle.gf_take_run.specs.TakeSteps.{IsBeyond, IsNewerThan, RefusesSeen};
 
-use crate::TakeRunError;
+use crate::drawing_error::DrawingError;
 use gf_edit::Made;
 use gf_ops::{Clock, History, Op, OpId};
 use gf_take::reach;
 
 /// Refuses a drawing that knew an operation which the history lacks.
-pub(crate) fn check_known(history: &History, site: u8, seen: &Clock) -> Result<(), TakeRunError>
+pub(crate) fn check_known(history: &History, site: u8, seen: &Clock) -> Result<(), DrawingError>
     ensures ok { OnOk result (AreThere seen.now history.now.ops) }
     ensures err { IfErr result (RefusesSeen site history.now.ops seen.now) }
 {
     for other in 1..9 {
         let last = entry(seen, other);
         if history.count(other) < last {
-            return Err(TakeRunError::Absent(OpId {
+            return Err(DrawingError::Absent(OpId {
                 site: other,
                 seq: last,
             }));
@@ -32,7 +32,7 @@ pub(crate) fn check_known(history: &History, site: u8, seen: &Clock) -> Result<(
 
 /// Refuses a drawing that is older than an operation of the site, where this knows what others made
 /// and the drawing did not know.
-pub(crate) fn check_age(history: &History, site: u8, seen: &Clock) -> Result<(), TakeRunError>
+pub(crate) fn check_age(history: &History, site: u8, seen: &Clock) -> Result<(), DrawingError>
     ensures ok { OnOk result ((a x : Op) → ¬ (IsNewer site seen.now history.now.ops a x)) }
     ensures err { IfErr result (RefusesSeen site history.now.ops seen.now) }
 {
@@ -40,7 +40,7 @@ pub(crate) fn check_age(history: &History, site: u8, seen: &Clock) -> Result<(),
     let known = reach(0, seen, history.ops());
     for op in history.ops() {
         if let Some(id) = newer(history, site, seen, op, &known) {
-            return Err(TakeRunError::Older(op.id, id));
+            return Err(DrawingError::Older(op.id, id));
         }
     }
     Ok(())

@@ -9,7 +9,6 @@ use gf_fig_faults::DrawingFaults;
 use gf_ops::OpId;
 use gf_run::StudioError;
 use gf_shape::OutOfMemory;
-use gf_site::AuthorFault;
 use thiserror::Error;
 
 /// Why nothing is taken.
@@ -27,10 +26,10 @@ pub enum TakeRunError {
     /// The FIG text reads as no drawing, and has these faults.
     #[error("{0}")]
     Fig(DrawingFaults),
-    /// A figure breaks a limit.
+    /// A figure that does not look like its version breaks a limit.
     #[error("{0}")]
     Figure(BrokenLimit),
-    /// The drawing has more than 1,000 figures, or more would be visible.
+    /// The drawing has more than 1,000 figures, or what it knew shows more versions.
     #[error("TooManyFigures")]
     TooManyFigures,
     /// The FIG text doesn't tell which operations it knew.
@@ -43,9 +42,9 @@ pub enum TakeRunError {
     /// of another site, which the drawing did not know.
     #[error("drawing older than operation {0}, which knows {1}: open the drawing anew")]
     Older(OpId, OpId),
-    /// The site refuses one of the operations.
-    #[error("{0}")]
-    Refused(AuthorFault),
+    /// The site has made 10,000 operations.
+    #[error("Exhausted")]
+    Exhausted,
     /// No operations were found by which the site shows the drawing.
     #[error("no operations found that show the drawing: change less at once")]
     Differs,

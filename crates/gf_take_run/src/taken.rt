@@ -4,8 +4,8 @@ use gf_edit::Made;
 use gf_ops::ObjectId;
 use std::fmt;
 
-/// What a take made, how many figures it was about, and what xfig does not keep.
-#[derive(Debug, Drop)]
+/// What a take made, how many objects it was about, and what xfig does not keep.
+#[derive(Drop)]
 pub struct Taken {
     /// The first and the last of the operations that were made.
     pub made: Option<Made>,
@@ -13,11 +13,11 @@ pub struct Taken {
     pub since: Option<Made>,
     /// The objects of the drawing's polygons that xfig does not keep, as it was written.
     pub thin: Vec<ObjectId>,
-    /// How many figures came to look otherwise.
+    /// How many objects got another look or another layer.
     pub changed: usize,
-    /// How many figures were deleted.
+    /// How many objects were hidden, whole or in part.
     pub hidden: usize,
-    /// How many figures are new.
+    /// How many objects were created.
     pub drawn: usize,
 }
 

@@ -1,0 +1,166 @@
+//! The changes by which a site comes to show a drawing.
+
+ghost use Rattle.std.specs.Prelude.{◌≡◌, ◌≤◌, ℕ, ◌+◌, All, IfErr, IfOk, IfSome, length};
+ghost use Rattle.gf_fig_read.specs.FaultLines.{BeginsOn};
+ghost use Rattle.gf_fig_read.specs.FigGrammar.{Reads};
+ghost use Rattle.gf_versions.specs.Ranking.{AreRanked};
+ghost use Rattle.gf_versions.specs.declared.ranking.TheConstants.{MOST_VERSIONS};
+ghost use Rattle.gf_take_run.specs.OnShown.{IsOnShown};
+ghost use Rattle.gf_take_run.specs.TakeRun.{BreaksLimit};
+ghost use Rattle.gf_take_run.specs.TakenText.{DenotesDrawing};
+ghost use Rattle.gf_take_run.specs.TakeSteps.{RefusesPlan};
+
+use crate::BrokenLimit;
+use crate::drawing_error::DrawingError;
+use crate::reading::ReadDrawing;
+use crate::showing::are_on_shown;
+use gf_changes::{Matching, Target, alterations, arranged, first_beyond, matched, versions_of};
+use gf_fig_faults::seen_at;
+use gf_fig_read::object_line;
+use gf_figures::Drawing;
+use gf_import::{start_fault, start_of};
+use gf_ops::Change;
+use gf_shape::{AnyShape, OutOfMemory, Outline};
+use gf_site::{AuthorFault, Site};
+use gf_versions::{MOST_VERSIONS, Placed, Version};
+use gf_visible::ranked_within;
+use std::alloc::Global;
+
+/// What is proposed.
+#[derive(Drop)]
+enum Plan {
+    /// Changes in the order in which they are to be made.
+    Changes(Vec<Change>),
+    /// The figure of this index in file order would become what no operation can make.
+    Beyond(usize),
+}
+
+/// The changes that a site, which shows these versions, is to make so that it shows the drawing.
+/// That they do is for the caller to check.
+pub(crate) fn changes_for(
+    alloc: Global,
+    base: &Site,
+    fig: &[u8],
+    shown: &[Placed<AnyShape>],
+    drawn: &ReadDrawing,
+) -> Result<Vec<Change>, DrawingError>
+    requires ranked { AreRanked base.now.ops shown.now }
+    requires drawn { DenotesDrawing fig.now drawn.now.drawing drawn.now.seen }
+    ensures shown { IfOk result (λ changes. All (IsOnShown base.now.ops) changes.items) }
+    ensures refused { IfErr result (RefusesPlan fig.now drawn.now.drawing) }
+{
+    match planned(alloc, base, shown, drawn)? {
+        Plan::Changes(changes) => {
+            if are_on_shown(&changes, shown) {
+                Ok(changes)
+            } else {
+                Err(DrawingError::Differs)
+            }
+        }
+        Plan::Beyond(index) => match broken_at(alloc, fig, &drawn.drawing, index)? {
+            Some(broken) => Err(DrawingError::Figure(broken)),
+            None => Err(DrawingError::Differs),
+        },
+    }
+}
+
+/// The limit that the figure of this index in file order breaks, if it breaks one.
+fn broken_at(
+    alloc: Global,
+    fig: &[u8],
+    drawing: &Drawing<Outline>,
+    index: usize,
+) -> Result<Option<BrokenLimit>, OutOfMemory>
+    requires reads { Reads fig.now drawing.now }
+    requires few { length drawing.now.figures ≤ MOST_VERSIONS }
+    ensures { IfOk result (λ broken. IfSome broken (λ b.
+        BreaksLimit b.object b.fault drawing.now × BeginsOn fig.now b.object b.line)) }
+{
+    let Some(figure) = drawing.figures().get(index) else {
+        return Ok(None);
+    };
+    let start = start_of(alloc, drawing, figure)?;
+    let Some(fault) = start_fault(&start) else {
+        return Ok(None);
+    };
+    let object = object_at(drawing, index);
+    match object_line(alloc, fig, object)? {
+        Some(line) => Ok(Some(BrokenLimit {
+            line,
+            object,
+            fault,
+            seen: seen_at(fig, line),
+        })),
+        None => Ok(None),
+    }
+}
+
+/// The number of the FIG object of a figure of this index.
+fn object_at(drawing: &Drawing<Outline>, index: usize) -> u64
+    requires { index ≤ 1000 }
+    ensures { result ≡ length drawing.now.table + index + 1 }
+{
+    drawing.colours().len() as u64 + index as u64 + 1
+}
+
+/// The changes that a site is to make so that it shows a drawing. It shows these versions. Where the
+/// site refuses one of the changes, or shows too much, those are the last ones.
+fn planned(
+    alloc: Global,
+    base: &Site,
+    shown: &[Placed<AnyShape>],
+    drawn: &ReadDrawing,
+) -> Result<Plan, OutOfMemory>
+    requires { AreRanked base.now.ops shown.now }
+{
+    let before = versions_of(alloc, base.history(), shown)?;
+    let matching = matched(alloc, &before, &drawn.targets, &drawn.seen)?;
+    if let Some(index) = first_beyond(&drawn.targets, &matching) {
+        return Ok(Plan::Beyond(index));
+    }
+    let mut changes = alterations(alloc, base.history(), &before, &drawn.targets, &matching)?;
+    let mut site = base.copy(alloc)?;
+    if author_all(alloc, &mut site, &changes)? {
+        arrange(
+            alloc,
+            &site,
+            &before,
+            &drawn.targets,
+            &matching,
+            &mut changes,
+        )?;
+    }
+    Ok(Plan::Changes(changes))
+}
+
+/// Has a site make these changes, and answers whether it refuses none.
+fn author_all(alloc: Global, site: &mut Site, changes: &[Change]) -> Result<bool, OutOfMemory> {
+    for change in changes {
+        match site.author(change.copy(alloc)?) {
+            Ok(_) => {}
+            Err(AuthorFault::OutOfMemory) => return Err(OutOfMemory),
+            Err(_) => return Ok(false),
+        }
+    }
+    Ok(true)
+}
+
+/// Adds the changes of layers and the creations of new figures, as far as the site that was changed
+/// shows no more versions than a drawing has.
+fn arrange(
+    alloc: Global,
+    changed: &Site,
+    before: &[Version],
+    targets: &[Target],
+    matching: &Matching,
+    changes: &mut Vec<Change>,
+) -> Result<(), OutOfMemory> {
+    let Some(ranked) = ranked_within(alloc, &changed.versions(), MOST_VERSIONS)? else {
+        return Ok(());
+    };
+    let history = changed.history();
+    let versions = versions_of(alloc, history, &ranked.items)?;
+    let mut arranged = arranged(alloc, history, before, &versions, targets, matching)?;
+    changes.append(&mut arranged)?;
+    Ok(())
+}

@@ -1,0 +1,119 @@
+//! The operation lines and the drawing that a take reads.
+
+ghost use Rattle.std.specs.Prelude.{◌≡◌, ◌≤◌, ℕ, List, IfErr, IfOk, IfSome};
+ghost use Rattle.gf_ops.specs.declared.op.Op.{Op};
+ghost use Rattle.gf_ops.specs.OperationOrder.{IsSite};
+ghost use Rattle.gf_run.specs.RefusedRuns.{IsBetween};
+ghost use Rattle.gf_take_run.specs.TakenText.{DenotesDrawing, DenotesLines};
+ghost use Rattle.gf_take_run.specs.TakeRun.{RefusesParts, of_take};
+
+use crate::TakeRunError;
+use gf_changes::{Target, targets};
+use gf_edit::{EditError, check_waiting};
+use gf_fig_faults::drawing_faults;
+use gf_fig_named::{Named, read_names};
+use gf_fig_read::read_fig;
+use gf_figures::Drawing;
+use gf_import::{start_fault, start_of};
+use gf_ops::{Clock, History};
+use gf_replay::read_replica;
+use gf_run::StudioError;
+use gf_shape::{OutOfMemory, Outline};
+use gf_site::Site;
+use gf_versions::MOST_VERSIONS;
+use std::alloc::Global;
+use std::thread::Threads;
+
+/// The site that has the operations of these lines, where nothing that waits blocks it.
+pub(crate) fn read_lines<T: Threads + Sync>(
+    rt: &T,
+    alloc: Global,
+    lines: Vec<u8>,
+    site: u8,
+    workers: u8,
+) -> Result<Site<History>, TakeRunError>
+    requires site { IsSite site }
+    requires workers { (1 ≤ workers) × (workers ≤ 16) }
+    ensures ok { IfOk result (λ x. DenotesLines site lines.items x.ops) }
+    ensures number { IfOk result (λ x. x.number ≡ site) }
+    ensures refused { (fig : List ℕ) → IfErr result (RefusesParts site lines.items fig) }
+    ensures between { IfErr result (λ e. IfSome (of_take e) IsBetween) }
+{
+    let replica = match read_replica(rt, alloc, lines, workers) {
+        Ok(replica) => replica,
+        Err(fault) => return Err(TakeRunError::Run(StudioError::from(fault))),
+    };
+    // The clause of `history` says that each operation was accepted.
+    let _ = replica.history();
+    let taker = Site::with_replica(alloc, site, replica);
+    match check_waiting(alloc, &taker) {
+        Ok(()) => Ok(taker),
+        Err(EditError::Waits(id, other)) => Err(TakeRunError::Waits(id, other)),
+        Err(EditError::Run(fault)) => Err(TakeRunError::Run(fault)),
+        Err(EditError::Refused(..)) => unreachable!(),
+        Err(EditError::NoVersion(_)) => unreachable!(),
+    }
+}
+
+/// A drawing, its figures from the front to the back, and what it knew.
+#[derive(Drop)]
+pub(crate) struct ReadDrawing {
+    pub(crate) drawing: Drawing<Outline>,
+    pub(crate) targets: Vec<Target>,
+    pub(crate) seen: Clock,
+}
+
+/// The drawing that a FIG text reads as, with the names of its figures.
+pub(crate) fn read_drawing(alloc: Global, fig: &[u8]) -> Result<ReadDrawing, TakeRunError>
+    ensures ok { IfOk result (λ read. DenotesDrawing fig.now read.drawing read.seen) }
+    ensures refused { (s : ℕ) (lines : List ℕ) (h : List Op) → DenotesLines s lines h
+        → IfErr result (RefusesParts s lines fig.now) }
+    ensures between { IfErr result (λ e. IfSome (of_take e) IsBetween) }
+{
+    let drawing = match read_fig(alloc, fig) {
+        Ok(drawing) => drawing,
+        Err(_) => return Err(fig_refusal(alloc, fig)),
+    };
+    if MOST_VERSIONS < drawing.figures().len() {
+        return Err(TakeRunError::TooManyFigures);
+    }
+    let names = read_names(alloc, fig)?;
+    let Some(seen) = names.known else {
+        return Err(TakeRunError::Unnamed);
+    };
+    let targets = targets_of(alloc, &drawing, names.figures)?;
+    Ok(ReadDrawing {
+        drawing,
+        targets,
+        seen,
+    })
+}
+
+/// The figures of a drawing from the front to the back, with these names in file order.
+fn targets_of(
+    alloc: Global,
+    drawing: &Drawing<Outline>,
+    names: Vec<Option<Named>>,
+) -> Result<Vec<Target>, OutOfMemory> {
+    let mut starts = Vec::with_capacity(alloc, drawing.figures().len())?;
+    for figure in drawing.figures() {
+        let start = start_of(alloc, drawing, figure)?;
+        let is_within = start_fault(&start).is_none();
+        starts.push((start, is_within))?;
+    }
+    targets(alloc, drawing, starts, names)
+}
+
+/// Why a FIG text that can't be read is not taken.
+fn fig_refusal(alloc: Global, fig: &[u8]) -> TakeRunError
+    ensures refused { (s : ℕ) (lines : List ℕ) (h : List Op) → DenotesLines s lines h
+        → RefusesParts s lines fig.now result }
+    ensures between { IfSome (of_take result) IsBetween }
+{
+    match drawing_faults(alloc, fig) {
+        // A text without faults can be read, so memory was refused.
+        Ok(faults) if faults.as_slice().is_empty() => TakeRunError::from(OutOfMemory),
+        Ok(faults) => TakeRunError::Fig(faults),
+        Err(OutOfMemory) => TakeRunError::from(OutOfMemory),
+    }
+}
