@@ -13,7 +13,7 @@ use std::collections::BTreeMap;
 use std::marker::Model;
 
 /// Operations by id, each in a box of its own, so that empty places in the tree are small.
-#[derive(Debug, Drop)]
+#[derive(Drop)]
 pub(crate) struct BoxedOps {
     alloc: Global,
     boxes: BTreeMap<OpId, Box<Op>>,

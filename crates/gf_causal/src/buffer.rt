@@ -31,7 +31,7 @@ pub enum Offered {
 }
 
 /// Operations that wait until a history has what they know, seen as their list, rising by id.
-#[derive(Debug, Drop)]
+#[derive(Drop)]
 pub struct Buffer {
     ops: OpsById,
 }

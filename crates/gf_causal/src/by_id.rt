@@ -15,7 +15,7 @@ use std::alloc::Global;
 use std::marker::Model;
 
 /// Operations by id.
-#[derive(Debug, Drop)]
+#[derive(Drop)]
 pub(crate) struct OpsById {
     alloc: Global,
     // An operation lies here while it is alone, as lines in causal order do for a moment. The

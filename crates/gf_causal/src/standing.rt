@@ -6,7 +6,7 @@ ghost use Rattle.gf_causal.specs.Keeping.{Compares, Among, joined};
 use gf_ops::{History, Op, same_op};
 
 /// What stands under the id of an operation.
-#[derive(Clone, Copy, Debug, PartialEq, Eq)]
+#[derive(Clone, Copy, PartialEq, Eq)]
 pub(crate) enum Standing {
     /// No operation.
     Free,

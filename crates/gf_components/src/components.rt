@@ -17,7 +17,7 @@ use std::alloc::Global;
 use std::marker::Model;
 
 /// Numbers that no conflict connects with others, and their largest compatible sets.
-#[derive(Debug, Drop)]
+#[derive(Drop)]
 pub struct Component {
     all: Numbers,
     sets: Sets,
@@ -32,7 +32,7 @@ impl Model for Component {
 }
 
 /// The numbers that are in every version, and the components.
-#[derive(Debug, Drop)]
+#[derive(Drop)]
 pub struct Components {
     free: Numbers,
     components: Vec<Component>,

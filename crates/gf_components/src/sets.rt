@@ -14,7 +14,7 @@ use std::marker::Model;
 pub const MOST_SETS: usize = 1_000;
 
 /// The sets, unless they are more than [`MOST_SETS`].
-#[derive(Debug, Drop)]
+#[derive(Drop)]
 pub(crate) struct Sets {
     sets: Option<Vec<Numbers>>,
 }

@@ -4,7 +4,7 @@ use gf_keep::Keep;
 use gf_ops::{Change, OpId};
 
 /// What a line tells the site that edits.
-#[derive(Debug, PartialEq, Eq, Drop)]
+#[derive(Drop)]
 pub enum EditCommand {
     /// To make an operation with this change.
     Author(Change),

@@ -13,7 +13,7 @@ use gf_ops::Op;
 use std::alloc::Global;
 
 /// What a line of an edited text denotes.
-#[derive(Debug, PartialEq, Eq, Drop)]
+#[derive(Drop)]
 pub enum Entry {
     /// An operation of any site.
     Operation(Op),

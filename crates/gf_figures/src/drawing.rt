@@ -23,7 +23,7 @@ const WHITE: Rgb = Rgb {
 };
 
 /// Figures over a white ground, with the table of their colours.
-#[derive(Debug, Drop)]
+#[derive(Drop)]
 pub struct Drawing<S> {
     table: ColourTable,
     figures: Vec<Figure<S>>,

@@ -11,7 +11,7 @@ use std::marker::Model;
 
 /// The colours that a drawing adds to the standard ones, by their numbers, in the order of
 /// adding.
-#[derive(Debug, Drop)]
+#[derive(Drop)]
 pub struct ColourTable {
     entries: IndexMap<u16, Rgb>,
 }

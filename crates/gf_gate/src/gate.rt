@@ -16,7 +16,7 @@ pub trait Gate {
 }
 
 /// A gate that stops nobody.
-#[derive(Clone, Copy, Debug)]
+#[derive(Clone, Copy)]
 pub struct OpenGate;
 
 impl Gate for OpenGate {

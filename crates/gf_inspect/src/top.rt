@@ -14,7 +14,7 @@ use gf_visible::{ranked, ranked_all};
 use std::alloc::Global;
 
 /// The name of a version: its object, and the ids of its operations, rising.
-#[derive(Debug, Drop)]
+#[derive(Drop)]
 pub struct VersionName {
     pub object: ObjectId,
     pub ops: Ids,

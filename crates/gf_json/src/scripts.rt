@@ -3,7 +3,7 @@
 use gf_ops::{Change, Ids, ObjectId, OpId};
 
 /// What a script asks of a site.
-#[derive(Debug, PartialEq, Eq, Drop)]
+#[derive(Drop)]
 pub enum Command {
     /// To make an operation with this change.
     Author(Change),
@@ -12,7 +12,7 @@ pub enum Command {
 }
 
 /// A command, and the site that it is for, 1 to 8.
-#[derive(Debug, PartialEq, Eq, Drop)]
+#[derive(Drop)]
 pub struct ScriptLine {
     pub site: u8,
     pub command: Command,
@@ -20,7 +20,7 @@ pub struct ScriptLine {
 
 /// A line by which a site keeps those visible versions of an object that hold all of the operations
 /// under these ids.
-#[derive(Debug, PartialEq, Eq, Drop)]
+#[derive(Drop)]
 pub struct KeepLine {
     pub site: u8,
     pub object: ObjectId,

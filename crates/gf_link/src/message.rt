@@ -6,7 +6,7 @@ ghost use Rattle.gf_link.specs.Ends.{is_end};
 use gf_ops::Op;
 
 /// What a site sends to another.
-#[derive(Debug, Drop)]
+#[derive(Drop)]
 pub enum Message {
     /// An operation of the sender.
     Op(Op),

@@ -18,7 +18,7 @@ use std::alloc::Global;
 use std::marker::Model;
 
 /// A set of numbers, kept as runs and seen as the rising list of its numbers.
-#[derive(Debug, Drop)]
+#[derive(Drop)]
 pub struct Numbers {
     runs: Vec<Run>,
 }

@@ -35,7 +35,7 @@ impl Attr {
 }
 
 /// A value of an attribute.
-#[derive(Debug, PartialEq, Eq, Drop)]
+#[derive(PartialEq, Eq, Drop)]
 pub enum Value {
     Place(Point),
     Points(Points),
@@ -47,7 +47,7 @@ pub enum Value {
 }
 
 /// The shape of an object, seen from its place.
-#[derive(Debug, PartialEq, Eq, Drop)]
+#[derive(PartialEq, Eq, Drop)]
 pub enum Form {
     /// A box of this width and height; its place is its least corner.
     Rect(u32, u32),
@@ -60,7 +60,7 @@ pub enum Form {
 }
 
 /// The attributes that a new object begins with. Objects of a higher layer are above.
-#[derive(Debug, PartialEq, Eq, Drop)]
+#[derive(PartialEq, Eq, Drop)]
 pub struct Start {
     pub form: Form,
     pub place: Point,
@@ -70,7 +70,7 @@ pub struct Start {
 }
 
 /// A change of the drawing.
-#[derive(Debug, PartialEq, Eq, Drop)]
+#[derive(PartialEq, Eq, Drop)]
 pub enum Change {
     /// Makes a new object, named by the operation's own id.
     Create(Start),

@@ -31,11 +31,12 @@ pub(crate) fn copy_ops(ops: &[Op], alloc: Global) -> Result<Vec<Op>, OutOfMemory
 }
 
 impl Change {
-    fn copy(&self, alloc: Global) -> Result<Change, OutOfMemory>
+    /// A copy of the change.
+    pub fn copy(&self, alloc: Global) -> Result<Change, OutOfMemory>
         ensures { IfOk result (λ change. change ≡ self.now) }
     {
         match self {
-            Change::Create(start) => Ok(Change::Create(copy_start(start, alloc)?)),
+            Change::Create(start) => Ok(Change::Create(start.copy(alloc)?)),
             Change::Set { object, value, aim } => Ok(Change::Set {
                 object: *object,
                 value: value.copy(alloc)?,
@@ -45,16 +46,19 @@ impl Change {
     }
 }
 
-fn copy_start(start: &Start, alloc: Global) -> Result<Start, OutOfMemory>
-    ensures { IfOk result (λ copy. copy ≡ start.now) }
-{
-    Ok(Start {
-        form: start.form.copy(alloc)?,
-        place: start.place,
-        colour: start.colour,
-        layer: start.layer,
-        shown: start.shown,
-    })
+impl Start {
+    /// A copy of the attributes.
+    pub fn copy(&self, alloc: Global) -> Result<Start, OutOfMemory>
+        ensures { IfOk result (λ start. start ≡ self.now) }
+    {
+        Ok(Start {
+            form: self.form.copy(alloc)?,
+            place: self.place,
+            colour: self.colour,
+            layer: self.layer,
+            shown: self.shown,
+        })
+    }
 }
 
 impl Form {

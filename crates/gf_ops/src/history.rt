@@ -20,7 +20,7 @@ use std::alloc::Global;
 use std::marker::Model;
 
 /// A valid history: operations in the order in which they were added.
-#[derive(Debug, Drop)]
+#[derive(Drop)]
 pub struct History {
     ops: Vec<Op>,
     // Where each operation stands in `ops`: that of s.n in row n - 1, at s - 1.

@@ -11,7 +11,7 @@ use std::alloc::Global;
 use std::marker::Model;
 
 /// The ids of some operations, seen as their list.
-#[derive(Debug, Drop)]
+#[derive(Drop)]
 pub struct Ids {
     ids: Vec<OpId>,
 }

@@ -42,7 +42,7 @@ impl Clock {
 }
 
 /// One edit: its name, what its site knew before it, and what it changes.
-#[derive(Debug, PartialEq, Eq, Drop)]
+#[derive(PartialEq, Eq, Drop)]
 pub struct Op {
     pub id: OpId,
     pub past: Clock,

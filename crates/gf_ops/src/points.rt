@@ -9,7 +9,7 @@ use gf_plane::Point;
 use std::marker::Model;
 
 /// The points of a polygon, seen as their list.
-#[derive(Debug, Drop)]
+#[derive(Drop)]
 pub struct Points {
     points: Vec<Point>,
 }

@@ -18,7 +18,7 @@ use std::thread::Threads;
 
 /// The pixels of a window: rows from the top, points from the left, and bytes of red, green and
 /// blue.
-#[derive(Debug, Drop)]
+#[derive(Drop)]
 pub struct Raster {
     bytes: Vec<u8>,
 }

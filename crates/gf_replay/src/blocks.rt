@@ -17,7 +17,7 @@ const BLOCK_LINES: usize = 4_096;
 const SHARE_LINES: usize = 256;
 
 /// What the line of this number reads as: the operation that it denotes, or its fault.
-#[derive(Debug, Drop)]
+#[derive(Drop)]
 pub(crate) struct Reading {
     pub number: u64,
     pub op: Result<Op, LineError>,

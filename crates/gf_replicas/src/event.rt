@@ -3,7 +3,7 @@
 use gf_ops::Change;
 
 /// What happens at the site of a number.
-#[derive(Debug, Drop)]
+#[derive(Drop)]
 pub enum Event {
     /// The site makes a change.
     Author(u8, Change),

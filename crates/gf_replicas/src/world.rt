@@ -17,7 +17,7 @@ use gf_site::{AuthorFault, Site};
 use std::alloc::Global;
 
 /// The sites, from number 1 on, and the messages, in the order in which they were authored.
-#[derive(Debug, Drop)]
+#[derive(Drop)]
 pub struct World {
     pub sites: Vec<Site>,
     pub messages: Vec<Op>,

@@ -15,7 +15,7 @@ use std::alloc::Global;
 use std::marker::Model;
 
 /// An operation that aims at others: its key, and the keys of the setters that it aims at.
-#[derive(Debug, Drop)]
+#[derive(Drop)]
 pub struct Aimed {
     key: usize,
     aim: Numbers,

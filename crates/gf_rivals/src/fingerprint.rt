@@ -9,7 +9,7 @@ use gf_plane::{Point, Rgb};
 
 /// The attribute of a value and three numbers of it. They determine the value, but of a list of
 /// points only the first one.
-#[derive(Clone, Copy, Debug, PartialEq, Eq, PartialOrd, Ord)]
+#[derive(Clone, Copy, PartialEq, Eq, PartialOrd, Ord)]
 pub(crate) struct Fingerprint {
     pub attribute: Attr,
     pub first: i64,

@@ -26,7 +26,7 @@ type KeysByFingerprint = BTreeMap<Fingerprint, Numbers>;
 
 /// For each fingerprint of a value the keys of the setters with such a value, none without a
 /// setter. An index can always be made again from the history and the logs.
-#[derive(Debug, Drop)]
+#[derive(Drop)]
 pub struct Index {
     keys: KeysByFingerprint,
 }

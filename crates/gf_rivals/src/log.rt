@@ -14,14 +14,14 @@ use std::alloc::Global;
 use std::marker::Model;
 
 /// An operation that sets the attribute: its number at its site, and its position in the history.
-#[derive(Clone, Copy, Debug)]
+#[derive(Clone, Copy)]
 pub(crate) struct Setter {
     pub seq: u32,
     pub position: usize,
 }
 
 /// The setters of one attribute by one site, in their order.
-#[derive(Debug, Drop)]
+#[derive(Drop)]
 pub(crate) struct Log {
     setters: Vec<Setter>,
 }

@@ -31,7 +31,7 @@ pub const LOGS: usize = 48;
 
 /// The logs of all attributes and sites. A log is kept from its first setter on, so few setters
 /// take little memory.
-#[derive(Debug, Drop)]
+#[derive(Drop)]
 pub struct Logs {
     logs: KeptLogs,
     // No setter of a site has a greater number than its entry here.

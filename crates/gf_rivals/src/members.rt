@@ -21,7 +21,7 @@ use gf_ops::{History, Op, Value, direct_conflict};
 use std::alloc::Global;
 
 /// A setter by its key, and the next one of its log that gives another value.
-#[derive(Clone, Copy, Debug)]
+#[derive(Clone, Copy)]
 struct Member {
     key: usize,
     other: Option<usize>,

@@ -15,7 +15,7 @@ const BLOCK: usize = 4_294_967_296;
 pub const FIRST_ABOVE: usize = LOGS * BLOCK;
 
 /// Which setter of an object: its log, and its index there.
-#[derive(Clone, Copy, Debug)]
+#[derive(Clone, Copy)]
 pub struct SetterIndex {
     pub log: usize,
     pub index: usize,

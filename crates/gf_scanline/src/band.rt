@@ -6,7 +6,7 @@ use crate::Window;
 use std::marker::Model;
 
 /// Rows of a window, one below the other: one row, or more.
-#[derive(Clone, Copy, Debug)]
+#[derive(Clone, Copy)]
 pub struct Band {
     window: Window,
     top: usize,

@@ -12,7 +12,7 @@ use std::marker::Model;
 const PATTERN_COLUMNS: usize = 64;
 
 /// A colour with the bytes of 64 pixels of it, from which columns are painted.
-#[derive(Debug, Drop)]
+#[derive(Drop)]
 pub struct Brush {
     colour: Rgb,
     pattern: Vec<u8>,

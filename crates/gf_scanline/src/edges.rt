@@ -20,7 +20,7 @@ use std::alloc::Global;
 use std::marker::Model;
 
 /// The edges of a chain that come between two heights.
-#[derive(Debug, Drop)]
+#[derive(Drop)]
 pub struct Edges {
     edges: Vec<Edge>,
 }

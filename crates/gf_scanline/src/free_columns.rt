@@ -14,7 +14,7 @@ const COLUMNS: usize = BITS * BITS;
 
 /// Which of 4,096 columns are free: a set bit for each, in words of 64. A bit of the summary is set
 /// where its word has a set bit.
-#[derive(Debug, Drop)]
+#[derive(Drop)]
 pub(crate) struct FreeColumns {
     words: [u64; BITS],
     summary: u64,

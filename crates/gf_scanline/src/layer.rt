@@ -4,7 +4,7 @@ use crate::Brush;
 use gf_shape::{Bounds, Chain};
 
 /// A shape in its colour, with its bounds. Of a polygon it has the chain of points.
-#[derive(Debug, Drop)]
+#[derive(Drop)]
 pub struct Layer<'a, S> {
     pub shape: &'a S,
     pub brush: Brush,

@@ -11,7 +11,7 @@ use gf_shape::OutOfMemory;
 use std::alloc::Global;
 
 /// Columns in one colour.
-#[derive(Clone, Copy, Debug)]
+#[derive(Clone, Copy)]
 pub(crate) struct Segment<'b> {
     pub columns: Columns,
     pub brush: &'b Brush,

@@ -9,7 +9,7 @@ use crate::Brush;
 use gf_shape::OutOfMemory;
 
 /// Columns in one colour: from where the stroke before this one ends, to before `to`.
-#[derive(Clone, Copy, Debug)]
+#[derive(Clone, Copy)]
 pub struct Stroke<'b> {
     pub to: usize,
     pub brush: &'b Brush,

@@ -5,7 +5,7 @@ use gf_shape::Row;
 use std::alloc::Global;
 
 /// The memory in which the rows of pieces are found, kept from row to row.
-#[derive(Debug, Drop)]
+#[derive(Drop)]
 pub struct Workspace {
     pub(crate) found: Row,
     pub(crate) told: EdgeRow,

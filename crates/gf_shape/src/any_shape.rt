@@ -10,7 +10,7 @@ use crate::{Bounds, Circle, Ellipse, OutOfMemory, Outline, Point, Polygon, Rect,
 use std::alloc::Global;
 
 /// A shape of any kind that a designer draws.
-#[derive(Debug, Drop)]
+#[derive(Drop)]
 pub enum AnyShape {
     Rect(Rect),
     Circle(Circle),

@@ -15,7 +15,7 @@ use std::marker::Model;
 
 /// A closed chain of points, the first one again at its end. FIG has two kinds: boxes and
 /// polygons.
-#[derive(Debug, Drop)]
+#[derive(Drop)]
 pub struct Chain {
     boxed: bool,
     points: Vec<Point>,

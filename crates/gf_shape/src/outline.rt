@@ -9,7 +9,7 @@ use crate::{Bounds, Chain, Disc, OutOfMemory, Oval, Point, Row, Shape};
 use std::alloc::Global;
 
 /// The outline of a figure, filled.
-#[derive(Debug, Drop)]
+#[derive(Drop)]
 pub enum Outline {
     Chain(Chain),
     Disc(Disc),

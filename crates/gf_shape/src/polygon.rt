@@ -19,7 +19,7 @@ use std::marker::Model;
 
 /// A polygon by its points, the last one joined to the first. The edges belong to the polygon;
 /// inside is what an odd number of edges separates from far away.
-#[derive(Debug, Drop)]
+#[derive(Drop)]
 pub struct Polygon {
     ring: Chain,
 }

@@ -13,7 +13,7 @@ use std::alloc::Global;
 use std::marker::Model;
 
 /// A row as its spans, with the memory in which further rows are found.
-#[derive(Debug, Drop)]
+#[derive(Drop)]
 pub struct Row {
     spans: Vec<Span>,
     meetings: Meetings,

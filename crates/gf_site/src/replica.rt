@@ -33,7 +33,7 @@ pub enum Step {
 }
 
 /// A history, by default with its versions, and the operations held until they are ready.
-#[derive(Debug, Drop)]
+#[derive(Drop)]
 pub struct Replica<H: GrowingHistory = VersionedHistory> {
     alloc: Global,
     history: H,

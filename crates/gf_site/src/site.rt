@@ -25,7 +25,7 @@ use std::alloc::Global;
 use std::marker::Model;
 
 /// A replica under the number of a site, which makes operations of changes.
-#[derive(Debug, Drop)]
+#[derive(Drop)]
 pub struct Site<H: GrowingHistory = VersionedHistory> {
     number: u8,
     replica: Replica<H>,

@@ -15,7 +15,7 @@ use std::alloc::{AllocError, Global};
 
 /// Where lines meet a row: each in a crossing, where it passes, or in a contact, where it only
 /// touches.
-#[derive(Debug, Drop)]
+#[derive(Drop)]
 pub struct Meetings {
     pub crossings: Vec<Crossing>,
     pub contacts: Vec<Span>,

@@ -34,7 +34,7 @@ const ATTRIBUTES: [Attr; 5] = [
 
 /// An attribute that differs among an object's visible versions, and the operations that give its
 /// values there, rising by id.
-#[derive(Debug, Drop)]
+#[derive(Drop)]
 pub struct Difference {
     pub attribute: Attr,
     pub givers: Ids,

@@ -18,7 +18,7 @@ use gf_visible::visible_groups;
 use std::alloc::Global;
 
 /// The status of an object.
-#[derive(Debug, Drop)]
+#[derive(Drop)]
 pub struct ObjectStatus {
     pub object: ObjectId,
     /// How many versions the object has, or 1,001 where they are more than 1,000.

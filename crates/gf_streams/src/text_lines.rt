@@ -17,7 +17,7 @@ const FORGOTTEN_BYTES: usize = 65_536;
 /// given back as lines are given.
 ///
 /// Giving all lines takes time in proportion to the text.
-#[derive(Debug, Drop)]
+#[derive(Drop)]
 pub struct TextLines {
     text: Vec<u8>,
     next: Place,
@@ -25,7 +25,7 @@ pub struct TextLines {
 
 /// Where the next line stands in a text: its number, its first byte, and how many bytes it has.
 /// Without a next line, this is the end of the text.
-#[derive(Clone, Copy, Debug)]
+#[derive(Clone, Copy)]
 struct Place {
     number: u64,
     start: usize,

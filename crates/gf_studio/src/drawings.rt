@@ -27,7 +27,7 @@ use std::alloc::Global;
 use std::thread::Threads;
 
 /// A drawing of lines, and what it leaves out.
-#[derive(Debug, Drop)]
+#[derive(Drop)]
 pub struct DrawnLines {
     pub drawing: Drawing<AnyShape>,
     /// How many operations wait, and are not drawn.

@@ -21,7 +21,7 @@ use std::alloc::Global;
 use std::thread::Threads;
 
 /// What is told of a named text.
-#[derive(Debug, Drop)]
+#[derive(Drop)]
 pub struct NamedRun {
     /// How many operations wait, and are not drawn.
     pub waiting: usize,

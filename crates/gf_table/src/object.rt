@@ -102,7 +102,7 @@ fn copied_aimed(alloc: Global, aimed: &[Aimed]) -> Result<Vec<Aimed>, OutOfMemor
 
 /// The operations on an object, by keys: the logs of its setters, and their components. It
 /// also has what aims, and the position of the creation.
-#[derive(Debug, Drop)]
+#[derive(Drop)]
 pub(crate) struct ObjectTable {
     logs: Logs,
     index: Option<Index>,

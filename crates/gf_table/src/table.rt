@@ -21,7 +21,7 @@ use std::marker::Model;
 
 /// For each object of a history the operations on it in components. The table is seen as the list
 /// of objects with their states.
-#[derive(Debug, Drop)]
+#[derive(Drop)]
 pub struct GroupTable {
     alloc: Global,
     objects: BTreeMap<ObjectId, ObjectTable>,

@@ -16,7 +16,7 @@ use std::alloc::Global;
 use std::marker::Model;
 
 /// A history and the table of its versions, seen as the list of its operations.
-#[derive(Debug, Drop)]
+#[derive(Drop)]
 pub struct VersionedHistory {
     history: History,
     table: GroupTable,

@@ -18,7 +18,7 @@ use std::alloc::Global;
 use std::marker::Model;
 
 /// A history with the table of its versions, seen as the list of its operations.
-#[derive(Debug, Drop)]
+#[derive(Drop)]
 pub struct Versions<'h> {
     history: &'h History,
     table: &'h GroupTable,

@@ -13,7 +13,7 @@ use std::cmp::Ordering;
 
 /// The key of a version in the order: the layer, then the object, then the group's ids. The greater
 /// of two keys is above the other.
-#[derive(Debug, Drop)]
+#[derive(Drop)]
 pub struct VersionKey {
     pub layer: u16,
     pub object: ObjectId,
@@ -21,7 +21,7 @@ pub struct VersionKey {
 }
 
 /// A version of an object with its settled values.
-#[derive(Debug, Drop)]
+#[derive(Drop)]
 pub struct Version {
     pub key: VersionKey,
     pub form: Form,

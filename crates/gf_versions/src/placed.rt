@@ -6,7 +6,7 @@ use crate::VersionKey;
 use gf_shape::Rgb;
 
 /// A visible version: its shape at its settled place, and its settled colour.
-#[derive(Debug, Drop)]
+#[derive(Drop)]
 pub struct Placed<S> {
     pub key: VersionKey,
     pub shape: S,
@@ -14,7 +14,7 @@ pub struct Placed<S> {
 }
 
 /// The visible versions of a history, topmost first.
-#[derive(Debug, Drop)]
+#[derive(Drop)]
 pub struct Ranked<S> {
     pub items: Vec<Placed<S>>,
 }

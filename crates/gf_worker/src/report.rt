@@ -11,7 +11,7 @@ pub struct Refused {
 }
 
 /// The ids of the operations that a site made, and its refused commands, both in order.
-#[derive(Debug, Drop)]
+#[derive(Drop)]
 pub struct Report {
     pub accepted: Vec<OpId>,
     pub refused: Vec<Refused>,

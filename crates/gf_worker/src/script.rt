@@ -3,5 +3,5 @@
 use gf_json::Command;
 
 /// The commands of one site, in turn.
-#[derive(Debug, Drop)]
+#[derive(Drop)]
 pub struct Script(pub Vec<Command>);

@@ -14,7 +14,7 @@ use std::sync::Wait;
 use std::thread;
 
 /// What waiting for an operation came to.
-#[derive(Clone, Copy, Debug, PartialEq, Eq)]
+#[derive(Clone, Copy, PartialEq, Eq)]
 pub(crate) enum Waited {
     Came,
     Never,
