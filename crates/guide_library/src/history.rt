@@ -1,25 +1,28 @@
 //! A history and its versions.
 
 use crate::lines::history;
+use anyhow::Result;
 use gf_ops::{ObjectId, OpId};
 use gf_plane::Rgb;
 use gf_table::groups_of;
 use gf_visible::ranked;
-use std::test::Fail;
+use std::alloc::Global;
 
-#[test]
-fn a_box_of_two_colours_has_two_versions(rt: HostRuntime) -> Result<(), Fail> {
-    let alloc = rt.alloc();
+pub fn versions_of_a_box(rt: &impl Print, alloc: Global) -> Result<()> {
     let history = history(alloc)?;
 
     let object = ObjectId(OpId { site: 1, seq: 1 });
     let groups = groups_of(alloc, &history, object)?;
-    assert_eq!(rt; groups.as_slice().len(), 2);
+    println!(rt;
+        "history: the box {} has {} versions",
+        object.0,
+        groups.as_slice().len()
+    )?;
 
     let ranked = ranked(alloc, &history)?;
-    let colours = [Rgb { r: 0, g: 0, b: 255 }, Rgb { r: 255, g: 0, b: 0 }];
-    for (placed, colour) in ranked.items.iter().zip(colours) {
-        assert_eq!(rt; placed.colour, colour);
+    for placed in &ranked.items {
+        let Rgb { r, g, b } = placed.colour;
+        println!(rt; "history: one of colour {r:02x}{g:02x}{b:02x}")?;
     }
     Ok(())
 }

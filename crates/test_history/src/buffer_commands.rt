@@ -2,7 +2,7 @@
 
 use crate::script::Scene;
 use gf_causal::{Buffer, OfferFault, Offered};
-use gf_ops::{AddFault, History, OpId};
+use gf_ops::{AddFault, History, OpFault, OpId};
 use std::alloc::Global;
 use test_kit::notation::{id, operation};
 
@@ -53,8 +53,12 @@ fn left(alloc: Global, taken: Option<OpId>, held: usize) -> Option<String> {
 
 /// What is taken out under an id, and how many stay.
 pub(crate) fn take_out(alloc: Global, buffer: &mut Buffer, text: &str) -> Option<String> {
-    let taken = buffer.take(id(text)?);
-    left(alloc, taken.map(|op| op.id), buffer.held())
+    let taken = taken_under(buffer, id(text)?);
+    left(alloc, taken, buffer.held())
+}
+
+fn taken_under(buffer: &mut Buffer, id: OpId) -> Option<OpId> {
+    Some(buffer.take(id)?.id)
 }
 
 /// What is taken of a buffer that holds this operation alone, and how many stay.
@@ -70,12 +74,21 @@ pub(crate) fn alone(alloc: Global, history: &History, text: &str) -> Option<Stri
 pub(crate) fn deliver(alloc: Global, scene: &mut Scene) -> Option<String> {
     let next = scene.buffer.take_ready(&scene.history)?;
     let id = next.id;
-    let checked = scene.history.check(&next).map_err(AddFault::Op);
+    let checked = scene.history.check(&next);
     let added = scene.history.add(next);
-    if checked == added {
+    if agree(&checked, &added) {
         delivered(alloc, id, added)
     } else {
         None
+    }
+}
+
+/// Whether an operation is added where the check finds no fault, and else refused for this fault.
+fn agree(checked: &Result<(), OpFault>, added: &Result<(), AddFault>) -> bool {
+    match (checked, added) {
+        (Ok(()), Ok(())) => true,
+        (Err(found), Err(AddFault::Op(refused))) => found == refused,
+        _ => false,
     }
 }
 

@@ -1,6 +1,6 @@
 //! Commands about a history.
 
-use gf_ops::{AddFault, History, OpFault};
+use gf_ops::{AddFault, History, OpFault, conflicts, direct_conflict};
 use std::alloc::Global;
 use test_kit::notation::{id, operation};
 
@@ -18,7 +18,7 @@ pub(crate) fn add(alloc: Global, history: &mut History, text: &str) -> Option<St
 pub(crate) fn check(alloc: Global, history: &History, text: &str) -> Option<String> {
     let op = operation(alloc, text)?;
     if !op.in_range() {
-        return None;
+        return String::from_str(alloc, "out of range").ok();
     }
     checked(alloc, history.check(&op))
 }
@@ -49,4 +49,26 @@ pub(crate) fn get(alloc: Global, history: &History, text: &str) -> Option<String
         Some(op) => format!(in alloc; "{}", op.id).ok(),
         None => String::from_str(alloc, "none").ok(),
     }
+}
+
+/// Whether two operations of the history conflict, and whether directly.
+pub(crate) fn standing(alloc: Global, history: &History, text: &str) -> Option<String> {
+    let (first, second) = text.split_once(' ')?;
+    let a = history.get(id(first)?)?;
+    let b = history.get(id(second)?)?;
+    if a.in_range() && b.in_range() {
+        told_standing(alloc, conflicts(history, a, b), direct_conflict(a, b))
+    } else {
+        None
+    }
+}
+
+fn told_standing(alloc: Global, conflict: bool, direct: bool) -> Option<String> {
+    let word = match (conflict, direct) {
+        (true, true) => "directly",
+        (true, false) => "by aims",
+        (false, false) => "no",
+        (false, true) => "directly alone",
+    };
+    String::from_str(alloc, word).ok()
 }

@@ -1,12 +1,11 @@
-//! The commands of the tables, each with what it acts on.
+//! The commands that act on a history and a buffer.
 
-use crate::{buffer_commands, history_commands, operation_commands};
+use crate::{buffer_commands, history_commands, operation_commands, version_commands};
 use gf_causal::Buffer;
 use gf_ops::History;
 use std::alloc::Global;
-use std::test::Fail;
+use test_kit::Answers;
 use test_kit::notation::history_ids;
-use test_kit::{Answers, ask};
 
 /// What commands act on.
 #[derive(Drop)]
@@ -16,7 +15,7 @@ pub(crate) struct Scene {
 }
 
 impl Scene {
-    fn new(alloc: Global) -> Scene {
+    pub(crate) fn new(alloc: Global) -> Scene {
         Scene {
             history: History::new(alloc),
             buffer: Buffer::new(alloc),
@@ -29,11 +28,6 @@ impl Answers for Scene {
         let (verb, text) = question.split_once(' ').unwrap_or((question, ""));
         told(alloc, self, verb, text)
     }
-}
-
-/// Each command of a table, which begins with nothing, has its answer.
-pub(crate) fn answers(alloc: Global, rows: &str) -> Result<(), Fail> {
-    ask(alloc, rows, &mut Scene::new(alloc))
 }
 
 /// The answer to the command of this verb.
@@ -65,6 +59,24 @@ fn told_of(alloc: Global, history: &History, verb: &str, text: &str) -> Option<S
         "count" => history_commands::count(alloc, history, text),
         "get" => history_commands::get(alloc, history, text),
         "alone" => buffer_commands::alone(alloc, history, text),
+        "conflict" => history_commands::standing(alloc, history, text),
+        _ => told_of_versions(alloc, history, verb, text),
+    }
+}
+
+/// The answer to a command about the versions of a history, or about operations.
+fn told_of_versions(alloc: Global, history: &History, verb: &str, text: &str) -> Option<String> {
+    match verb {
+        "groups" => version_commands::groups(alloc, history, text),
+        "versions" => version_commands::versions(alloc, history, text),
+        "all" => version_commands::all(alloc, history),
+        "total" => version_commands::total(alloc, history),
+        "ranked" => version_commands::ranking(alloc, history),
+        "telling" => version_commands::telling(alloc, history, text),
+        "looks" => version_commands::looks(alloc, history, text),
+        "covers" => version_commands::covers(alloc, history, text),
+        "settled" => version_commands::settled(alloc, history),
+        "aimed" => version_commands::aimed(alloc, history, text),
         _ => operation_commands::answer(alloc, verb, text),
     }
 }

@@ -35,6 +35,13 @@ pub fn history_ids(alloc: Global, history: &History) -> Option<String> {
     Some(ids)
 }
 
+/// A text in which `\n`, `\r` and `\t` stand for ends of lines and for tabs.
+pub fn unescaped(alloc: Global, text: &str) -> Option<String> {
+    let lines = text.replace(alloc, "\\n", "\n").ok()?;
+    let lines = lines.as_str().replace(alloc, "\\r", "\r").ok()?;
+    lines.as_str().replace(alloc, "\\t", "\t").ok()
+}
+
 /// An answer of yes or no.
 pub fn yes(answer: bool) -> &'static str {
     if answer { "yes" } else { "no" }

@@ -1,27 +1,22 @@
 //! Trials of drawings and of FIG texts: the red box, two versions of a box, and the drawing of
 //! nothing.
 
+ghost use Rattle.std.specs.Prelude.{◌≡◌};
+
 use crate::examples::{MOVED, RED_BOX_MADE, is_text, red_box, site};
 use crate::trial::{Came, Marks};
 use gf_drawing::CompileFault;
-use gf_fig_named::Names;
 use gf_fig_read::{FigError, FigFault};
 use gf_fig_write::fig_bytes as text_of;
 use gf_figures::{Drawing, Figure};
-use gf_import::CreationError;
-use gf_ops::{Change, Clock, Form, ObjectId, OpId};
 use gf_shape::{AnyShape, OutOfMemory, Outline, Rect, Shape};
-use gf_streams::{Reel, Tape, WriteError};
-use gf_studio::StudioError;
+use gf_streams::{Tape, WriteError};
 use gf_visible::ranked;
 use std::alloc::Global;
 use test_kit::{EMPTY_FIG, RED, RED_BOX_FIG, at};
-use test_kit_drawings::figure;
 
 pub(crate) const NAMES: &str = "
 compile
-draw_replica may do without
-drawing_of_fig
 add_colour
 add_figure
 front_to_back may do without
@@ -30,18 +25,12 @@ write_fig
 write_fig_cut
 read_fig
 read_fig_box
-object_line
-fault_line
-read_names
-creations
 ";
 
 /// What comes of the trial of this name, if there is one.
 pub(crate) fn tried(alloc: Global, name: &str, marks: &mut Marks) -> Option<Came> {
     let came = match name {
         "compile" => compile(alloc, marks),
-        "draw_replica" => draw_replica(alloc, marks),
-        "drawing_of_fig" => Some(drawing_of_fig(alloc, marks)),
         "add_colour" => add_colour(alloc, marks),
         "add_figure" => add_figure(alloc, marks),
         "front_to_back" => front_to_back(alloc, marks),
@@ -50,10 +39,6 @@ pub(crate) fn tried(alloc: Global, name: &str, marks: &mut Marks) -> Option<Came
         "write_fig_cut" => write_fig(alloc, marks, Some(20), (Err(WriteError::WriteFailed), CUT)),
         "read_fig" => read_fig(alloc, marks, EMPTY_FIG),
         "read_fig_box" => read_fig(alloc, marks, RED_BOX_FIG),
-        "object_line" => Some(object_line(alloc, marks)),
-        "fault_line" => Some(fault_line(alloc, marks)),
-        "read_names" => Some(read_names(alloc, marks)),
-        "creations" => creations(alloc, marks),
         _ => return None,
     };
     Some(came.unwrap_or(Came::TooEarly))
@@ -82,42 +67,6 @@ fn is_compiled(alloc: Global, answer: Result<Drawing<AnyShape>, CompileFault>) -
     }
 }
 
-fn draw_replica(alloc: Global, marks: &mut Marks) -> Option<Came> {
-    let site = site(alloc, RED_BOX_MADE)?;
-    marks.begin();
-    let first = gf_studio::draw_replica(alloc, site.replica());
-    marks.end();
-    Some(match first {
-        Err(CompileFault::OutOfMemory) => {
-            let next = gf_studio::draw_replica(alloc, site.replica());
-            Came::after_memory(true, is_compiled(alloc, next))
-        }
-        first => Came::first(is_compiled(alloc, first)),
-    })
-}
-
-fn drawing_of_fig(alloc: Global, marks: &mut Marks) -> Came {
-    let mut source = Reel::new(RED_BOX_FIG.as_bytes(), None);
-    let mut same = Reel::new(RED_BOX_FIG.as_bytes(), None);
-    marks.begin();
-    let first = gf_studio::drawing_of_fig(alloc, &mut source);
-    marks.end();
-    match first {
-        Err(StudioError::OutOfMemory) => {
-            let next = gf_studio::drawing_of_fig(alloc, &mut same);
-            Came::after_memory(true, is_drawn(alloc, next))
-        }
-        first => Came::first(is_drawn(alloc, first)),
-    }
-}
-
-fn is_drawn(alloc: Global, answer: Result<Drawing<Outline>, StudioError>) -> bool {
-    match answer {
-        Ok(drawing) => is_text(text_of(alloc, &drawing), RED_BOX_FIG),
-        Err(_) => false,
-    }
-}
-
 fn add_colour(alloc: Global, marks: &mut Marks) -> Option<Came> {
     let mut drawing: Drawing<Rect> = Drawing::new(alloc);
     marks.begin();
@@ -135,6 +84,17 @@ fn add_colour(alloc: Global, marks: &mut Marks) -> Option<Came> {
 
 fn has_red(drawing: &Drawing<Rect>) -> bool {
     drawing.colours().at(0) == Some((32, RED)) && drawing.rgb(32) == Some(RED)
+}
+
+/// The figure of a box, in a colour and at a depth.
+fn figure(shape: Rect, colour: u16, depth: u16) -> Figure<Rect>
+    ensures { result ≡ record { shape = shape; colour = colour; depth = depth } }
+{
+    Figure {
+        shape,
+        colour,
+        depth,
+    }
 }
 
 fn add_figure(alloc: Global, marks: &mut Marks) -> Option<Came> {
@@ -265,98 +225,4 @@ fn is_read(alloc: Global, answer: Result<Drawing<Outline>, FigError>, text: &str
         Ok(drawing) => is_text(text_of(alloc, &drawing), text),
         Err(_) => false,
     }
-}
-
-/// The line on which the box begins, behind the header and the colour.
-const BOX_LINE: Result<Option<u64>, OutOfMemory> = Ok(Some(11));
-
-fn object_line(alloc: Global, marks: &mut Marks) -> Came {
-    let text = RED_BOX_FIG.as_bytes();
-    marks.begin();
-    let first = gf_fig_read::object_line(alloc, text, 2);
-    marks.end();
-    match first {
-        Err(OutOfMemory) => {
-            let next = gf_fig_read::object_line(alloc, text, 2);
-            Came::after_memory(true, next == BOX_LINE)
-        }
-        first => Came::first(first == BOX_LINE),
-    }
-}
-
-/// A text that names a figure, and tells what was known.
-const NAMED: &str =
-    "#FIG 3.2\nLandscape\nCenter\nMetric\nA4\n100.00\nSingle\n-2\n# figgroup knows 1.2 2.1\n1200 2\n# figgroup 1.1 at 60 with 2.1\n1 3 0 0 0 0 60 -1 20 0.000 1 0.0000 40 60 3 3 40 60 43 60\n";
-
-fn read_names(alloc: Global, marks: &mut Marks) -> Came {
-    marks.begin();
-    let first = gf_fig_named::read_names(alloc, NAMED.as_bytes());
-    marks.end();
-    match first {
-        Err(OutOfMemory) => {
-            let next = gf_fig_named::read_names(alloc, NAMED.as_bytes());
-            Came::after_memory(true, are_told(next))
-        }
-        first => Came::first(are_told(first)),
-    }
-}
-
-/// Whether these are the names of the text.
-fn are_told(names: Result<Names, OutOfMemory>) -> bool {
-    let Ok(names) = names else {
-        return false;
-    };
-    let [Some(named)] = names.figures.as_slice() else {
-        return false;
-    };
-    names.known == Some(Clock([2, 1, 0, 0, 0, 0, 0, 0]))
-        && named.name.object == ObjectId(OpId { site: 1, seq: 1 })
-        && named.name.telling.as_slice().len() == 1
-        && named.depth == 60
-}
-
-/// The line of a fault of the box.
-fn fault_line(alloc: Global, marks: &mut Marks) -> Came {
-    let text = RED_BOX_FIG.as_bytes();
-    let error = FigError {
-        fault: FigFault::Depth,
-        object: 2,
-    };
-    marks.begin();
-    let first = gf_fig_read::fault_line(alloc, text, error);
-    marks.end();
-    match first {
-        Err(OutOfMemory) => {
-            let next = gf_fig_read::fault_line(alloc, text, error);
-            Came::after_memory(true, next == BOX_LINE)
-        }
-        first => Came::first(first == BOX_LINE),
-    }
-}
-
-fn creations(alloc: Global, marks: &mut Marks) -> Option<Came> {
-    let drawing = gf_fig_read::read_fig(alloc, RED_BOX_FIG.as_bytes()).ok()?;
-    marks.begin();
-    let first = gf_import::creations(alloc, &drawing);
-    marks.end();
-    Some(match first {
-        Err(CreationError::OutOfMemory) => {
-            let next = gf_import::creations(alloc, &drawing);
-            Came::after_memory(true, is_box_created(next))
-        }
-        first => Came::first(is_box_created(first)),
-    })
-}
-
-/// Whether the changes are the creation of the red box.
-fn is_box_created(answer: Result<Vec<Change>, CreationError>) -> bool {
-    match answer {
-        Ok(changes) => matches!(changes.as_slice(), [Change::Create(start)]
-            if start.place == at(100, 200) && start.layer == 999 && is_box(&start.form)),
-        Err(_) => false,
-    }
-}
-
-fn is_box(form: &Form) -> bool {
-    matches!(form, Form::Rect(300, 400))
 }

@@ -8,11 +8,9 @@ mod drawings;
 mod examples;
 mod history;
 mod pictures;
-mod runs;
 mod sessions;
 mod shapes;
 mod sites;
-mod taking;
 mod trial;
 mod versions;
 
@@ -68,13 +66,7 @@ fn tried<T: Threads + Wait + Sync>(
     if let Some(came) = drawings::tried(alloc, name, marks) {
         return Some(came);
     }
-    if let Some(came) = taking::tried(alloc, name, marks) {
-        return Some(came);
-    }
     if let Some(came) = pictures::tried(rt, alloc, name, marks) {
-        return Some(came);
-    }
-    if let Some(came) = runs::tried(rt, alloc, name, marks) {
         return Some(came);
     }
     sessions::tried(rt, alloc, name, marks)
@@ -89,9 +81,7 @@ fn all<T: Threads + Wait + Sync, W: Sink>(rt: &T, alloc: Global, output: &mut W)
         sites::NAMES,
         versions::NAMES,
         drawings::NAMES,
-        taking::NAMES,
         pictures::NAMES,
-        runs::NAMES,
         sessions::NAMES,
     ] {
         for line in names.trim().lines() {

@@ -10,7 +10,7 @@ use crate::trial::{Came, Marks};
 use gf_gate::OpenGate;
 use gf_json::{Command, LineError, ScriptLine, read_script};
 use gf_link::{Link, Message, SendSeat, TakeSeat, links, settle};
-use gf_ops::{Op, OpId};
+use gf_ops::{Change, Form, Op, OpId};
 use gf_session::{
     Cause, Done, Ends, Refused, Report, Script, SessionError, WorkerEnd, run_session, site_worker,
 };
@@ -21,6 +21,7 @@ use std::alloc::Global;
 use std::sync::Wait;
 use std::thread::Threads;
 use test_kit::notation::{change, operation};
+use test_kit::{RED, at};
 
 pub(crate) const NAMES: &str = "
 read_script
@@ -66,20 +67,31 @@ pub(crate) const SCRIPT: &str =
 "#;
 
 fn script_line(alloc: Global, marks: &mut Marks) -> Option<Came> {
-    let want = ScriptLine {
-        site: 1,
-        command: creates(alloc)?,
-    };
     let line = SCRIPT.lines().next()?.as_bytes();
     marks.begin();
     let first = read_script(alloc, line);
     marks.end();
     Some(match first {
         Err(LineError::OutOfMemory) => {
-            Came::after_memory(true, read_script(alloc, line) == Ok(want))
+            let next = read_script(alloc, line);
+            Came::after_memory(true, is_creation(next))
         }
-        first => Came::first(first == Ok(want)),
+        first => Came::first(is_creation(first)),
     })
+}
+
+/// Whether this is the first line of the script.
+fn is_creation(answer: Result<ScriptLine, LineError>) -> bool {
+    match answer {
+        Ok(line) => line.site == 1 && is_red_box(&line.command),
+        Err(_) => false,
+    }
+}
+
+fn is_red_box(command: &Command) -> bool {
+    matches!(command, Command::Author(Change::Create(start))
+        if start.place == at(0, 0) && start.layer == 0 && start.colour == RED && start.shown
+            && matches!(&start.form, Form::Rect(10, 10)))
 }
 
 fn creates(alloc: Global) -> Option<Command> {

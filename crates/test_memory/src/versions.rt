@@ -8,7 +8,6 @@ use gf_groups::{Group, GroupFault, is_made};
 use gf_inspect::VersionName;
 use gf_ops::{Change, History, ObjectId, OpId, Value};
 use gf_shape::{AnyShape, Bounds, OutOfMemory, Shape};
-use gf_status::ObjectStatus;
 use gf_table::VersionedHistory;
 use gf_versions::{Placed, Ranked, Version};
 use std::alloc::Global;
@@ -28,7 +27,6 @@ versions_with may do without
 top_at may do without
 top_at_with may do without
 aimed_at may do without
-object_statuses may do without
 lines
 top_line
 ";
@@ -49,7 +47,6 @@ pub(crate) fn tried(alloc: Global, name: &str, marks: &mut Marks) -> Option<Came
         "top_at" => top_at(alloc, marks),
         "top_at_with" => top_at_with(alloc, marks),
         "aimed_at" => aimed_at(alloc, marks),
-        "object_statuses" => object_statuses(alloc, marks),
         "lines" => lines(alloc, marks),
         "top_line" => top_line(alloc, marks),
         _ => return None,
@@ -363,31 +360,6 @@ fn is_aimed(answer: &Result<Option<Change>, OutOfMemory>) -> bool {
                 && aim.as_slice() == TOP.as_slice()
         }
         _ => false,
-    }
-}
-
-fn object_statuses(alloc: Global, marks: &mut Marks) -> Option<Came> {
-    let site = site(alloc, TWO_COLOURS)?;
-    marks.begin();
-    let first = gf_status::object_statuses(alloc, &site.versions());
-    marks.end();
-    Some(match first {
-        Err(OutOfMemory) => {
-            let next = gf_status::object_statuses(alloc, &site.versions());
-            Came::after_memory(true, is_open(next))
-        }
-        first => Came::first(is_open(first)),
-    })
-}
-
-/// Whether the status of the box tells two visible versions, which differ in one attribute.
-fn is_open(answer: Result<Vec<ObjectStatus>, OutOfMemory>) -> bool {
-    match answer {
-        Ok(statuses) => match statuses.as_slice() {
-            [one] => one.versions == 2 && one.shown == 2 && one.differences.len() == 1,
-            _ => false,
-        },
-        Err(OutOfMemory) => false,
     }
 }
 

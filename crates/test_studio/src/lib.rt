@@ -1,18 +1,12 @@
-//! Worked examples of runs and of windows that fit, by public calls alone.
+//! Worked examples, by public calls alone, of what no command shows.
 //!
-//! - `runs`: runs over sources and sinks in memory, and how they are refused;
-//! - `named`: FIG texts whose figures are named;
-//! - `fitted_histories`, `fitted_texts`: the windows that fit histories and FIG texts;
-//! - `frames`: which frames there are, and how these tables write frames and windows.
+//! - `dripping`: texts that go out in pieces;
+//! - `bases`, `taken`: what a site takes of a drawing, and on what base.
 #![tactic(auto)]
 
 #[cfg(test)]
-mod fitted_histories;
+mod bases;
 #[cfg(test)]
-mod fitted_texts;
+mod dripping;
 #[cfg(test)]
-mod frames;
-#[cfg(test)]
-mod named;
-#[cfg(test)]
-mod runs;
+mod taken;

@@ -1,0 +1,6 @@
+use Rattle.std.proofs.Common.{◌≡◌}
+use Rattle.test_threads.proofs.links.all_taken.Given as goal
+
+-- the seat stays that of the link
+abbrev pub invariant-loop-n : goal.invariant-loop-n
+invariant-loop-n g l = l.seat.link ≡ l.link
