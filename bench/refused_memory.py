@@ -16,6 +16,8 @@ import tempfile
 from concurrent.futures import ThreadPoolExecutor
 from pathlib import Path
 
+from preloaded import build_library
+
 ROOT = Path(__file__).resolve().parent.parent
 EXAMPLES = ROOT / "examples"
 LIMIT = 60  # seconds that one run may take
@@ -33,10 +35,7 @@ class Refuser:
     """Runs a program with one of its allocations or threads refused."""
 
     def __init__(self, folder):
-        self.library = Path(folder) / "refuse.so"
-        compiler = os.environ.get("CC", "cc")
-        source = ROOT / "bench" / "refuse.c"
-        subprocess.run([compiler, "-O2", "-shared", "-fPIC", "-o", self.library, source], check=True)
+        self.library = build_library(folder)
 
     def run(self, words, given, what, number, between):
         """The run, and whether anything was refused in it."""
@@ -199,13 +198,14 @@ def commands(program):
 
 
 def threaded(program):
-    """Commands of several workers, one of which is the first thread. All of them read so many lines. They share two bands,
-    for each of which threads start twice, or paint three bands of their own."""
+    """Commands of several workers, one of which is the first thread. All of them read so many lines, one of them two blocks of
+    lines. They share two bands, for each of which threads start twice, or paint three bands of their own."""
     read = input_of("red-box") * 1_000
     low = ["--width", "1000", "--height", "128", "--workers", "3"]
     high = ["--width", "1000", "--height", "192", "--workers", "3"]
     return [
         Command(program, ["fig", "--workers", "4"], read, threads=3),
+        Command(program, ["fig", "--workers", "4"], read * 5, threads=2 * 3),
         Command(program, ["inspect", "--object", "1.1", "--workers", "4"], read, threads=3),
         Command(program, ["inspect", "--at", "0,0", "--workers", "4"], read, threads=3),
         Command(program, ["status", "--workers", "4"], read, threads=3),
@@ -217,11 +217,9 @@ def threaded(program):
 
 
 def main():
-    subprocess.run([ROOT / "figgroup", "--version"], check=True, stdout=subprocess.DEVNULL)
-    figgroup = ROOT / "crates" / "figgroup" / "out" / "figgroup"
     calls = built("test_memory")
     listed = subprocess.run([calls], capture_output=True, text=True, check=True).stdout
-    trials = [Call(calls, line) for line in listed.splitlines()] + commands(figgroup)
+    trials = [Call(calls, line) for line in listed.splitlines()] + commands(ROOT / "bin" / "figgroup")
     with tempfile.TemporaryDirectory() as folder, ThreadPoolExecutor(os.cpu_count()) as threads:
         refuser = Refuser(folder)
         for line in threads.map(lambda trial: refuse_each(refuser, trial), trials):

@@ -3,7 +3,6 @@
 # five minutes, and wants four processors that do nothing else.
 set -eu
 root=$(cd "$(dirname "$0")/.." && pwd)
-"$root/figgroup" --version > /dev/null
 for words in "bench_lines" "bench_fig scan"; do
     set -- $words
     crate=$1

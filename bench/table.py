@@ -15,7 +15,7 @@ import time
 from dataclasses import dataclass, field
 
 ROOT = os.path.dirname(os.path.dirname(os.path.abspath(__file__)))
-FIGGROUP = f"{ROOT}/crates/figgroup/out/figgroup"
+FIGGROUP = f"{ROOT}/bin/figgroup"
 PLAIN = f"{ROOT}/crates/bench_lines/out/bench_lines"
 READER = f"{ROOT}/crates/bench_fig/out/bench_fig"
 ROUNDS = 5

@@ -21,69 +21,69 @@ passed=0
 failed=0
 
 drawn() {
-    cat "$@" | "$root/figgroup" fig
+    cat "$@" | "$root/bin/figgroup" fig
 }
 
 named() {
-    cat "$@" | "$root/figgroup" fig --named
+    cat "$@" | "$root/bin/figgroup" fig --named
 }
 
 # The words are split at blanks.
 painted() {
     words=$1
     shift
-    cat "$@" | "$root/figgroup" paint $words
+    cat "$@" | "$root/bin/figgroup" paint $words
 }
 
 repainted() {
-    "$root/figgroup" repaint $1 < "$2"
+    "$root/bin/figgroup" repaint $1 < "$2"
 }
 
 edited() {
-    "$root/figgroup" session --sites "$1" < "$2"
+    "$root/bin/figgroup" session --sites "$1" < "$2"
 }
 
 made() {
-    cat "$@" | "$root/figgroup" edit --site 1
+    cat "$@" | "$root/bin/figgroup" edit --site 1
 }
 
 told() {
-    cat "$@" | "$root/figgroup" status
+    cat "$@" | "$root/bin/figgroup" status
 }
 
 # The faults of lines that have some.
 faults() {
     status=0
-    "$root/figgroup" check < "$1" || status=$?
+    "$root/bin/figgroup" check < "$1" || status=$?
     [ "$status" = 1 ]
 }
 
 # The faults of commands of site 1 that have some.
 command_faults() {
     status=0
-    "$root/figgroup" check --site 1 < "$1" || status=$?
+    "$root/bin/figgroup" check --site 1 < "$1" || status=$?
     [ "$status" = 1 ]
 }
 
 imported() {
-    "$root/figgroup" import --site 1 < "$1"
+    "$root/bin/figgroup" import --site 1 < "$1"
 }
 
 plain() {
-    awk -f "$examples/plain.awk" < "$1" 2> /dev/null || :
+    awk -f "$root/share/figgroup/plain.awk" < "$1" 2> /dev/null || :
 }
 
 plain_told() {
-    awk -f "$examples/plain.awk" < "$1" 2>&1 > /dev/null || :
+    awk -f "$root/share/figgroup/plain.awk" < "$1" 2>&1 > /dev/null || :
 }
 
 # What an import tells of a drawing made plain.
 plain_faults() {
-    "$root/figgroup" import --site 1 < "$1" 2>&1 > /dev/null
+    "$root/bin/figgroup" import --site 1 < "$1" 2>&1 > /dev/null
 }
 
 plain_taken() {
-    cat "$examples"/named/site-*.jsonl "$1" | "$root/figgroup" take --site 2
+    cat "$examples"/named/site-*.jsonl "$1" | "$root/bin/figgroup" take --site 2
 }
 
 again() {
@@ -92,17 +92,17 @@ again() {
 
 # What the site of a folder takes of a drawing: the operations, and what is told of them.
 taken() {
-    cat "$1"/site-*.jsonl "$2" | "$root/figgroup" take --site "$(cat "$1/site")" 2>&1 || [ $? = 1 ]
+    cat "$1"/site-*.jsonl "$2" | "$root/bin/figgroup" take --site "$(cat "$1/site")" 2>&1 || [ $? = 1 ]
 }
 
 # The picture with the operations that are taken of a drawing.
 taken_picture() {
-    { cat "$1"/site-*.jsonl; grep '^{' "$2"; } | "$root/figgroup" paint --fit 2> /dev/null
+    { cat "$1"/site-*.jsonl; grep '^{' "$2"; } | "$root/bin/figgroup" paint --fit 2> /dev/null
 }
 
 # The picture of what a session comes to: its text without the report.
 edited_picture() {
-    edited "$1" "$3" | grep -v '^site ' | "$root/figgroup" repaint $2
+    edited "$1" "$3" | grep -v '^site ' | "$root/bin/figgroup" repaint $2
 }
 
 # Compares what the words behind the first two put out with what is expected of it.
@@ -177,7 +177,7 @@ compare_taken() {
         drawing="xfig, $(basename "$text")"
         compare "$drawing taken" "${text%.fig}.txt" taken "$1" "$text"
         if grep -q '^{' "${text%.fig}.txt"; then
-            "$root/figgroup" repaint --fit < "$text" > "$pixels" 2> /dev/null
+            "$root/bin/figgroup" repaint --fit < "$text" > "$pixels" 2> /dev/null
             compare "$drawing painted" "$pixels" taken_picture "$1" "${text%.fig}.txt"
         fi
     done
@@ -243,7 +243,7 @@ for example in "$examples"/*/; do
     done
 done
 
-compare "random takes" /dev/null env PATH="$root/crates/figgroup/out:$PATH" python3 "$examples/random_takes.py" 1 400 30
+compare "random takes" /dev/null env PATH="$root/bin:$PATH" python3 "$examples/random_takes.py" 1 400 30
 
 # In place of each window stands what xfig saved of it, named by the site and how many operations it had.
 export FIG_EDITOR="cp $examples/tutorial/saved/site-\$(cat site)-\$(wc -l < site-\$(cat site).jsonl).fig"
@@ -265,7 +265,7 @@ for tool in git jq pngtopnm flock; do
     command -v "$tool" > /dev/null || missing="$missing $tool"
 done
 if [ -z "$missing" ]; then
-    compare "draw" "$examples/draw/expected.txt" env PATH="$root:$PATH" "$examples/draw/run.sh"
+    compare "draw" "$examples/draw/expected.txt" env PATH="$root/bin:$PATH" "$examples/draw/run.sh"
 else
     echo "draw: skipped, as there is no$missing"
 fi

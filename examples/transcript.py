@@ -25,14 +25,16 @@ def steps(page):
 
 def run(commands, root, folder):
     """What each command puts out, all run by one shell at the folder."""
-    os.symlink(os.path.join(root, "examples"), os.path.join(folder, "examples"))
-    programs = {name: f'exec "{root}/{name}" "$@"' for name in ("figgroup", "draw")}
-    programs["pnmtopng"] = 'for file; do :; done; cat "$file"'
-    for name, words in programs.items():
-        program = os.path.join(folder, name)
-        with open(program, "w") as file:
-            file.write(f"#!/bin/sh\n{words}\n")
-        os.chmod(program, 0o755)
+    for name in ("examples", "share"):
+        os.symlink(os.path.join(root, name), os.path.join(folder, name))
+    programs = os.path.join(folder, "bin")
+    os.mkdir(programs)
+    for name in ("figgroup", "draw"):
+        os.symlink(os.path.join(root, "bin", name), os.path.join(programs, name))
+    stand_in = os.path.join(programs, "pnmtopng")
+    with open(stand_in, "w") as file:
+        file.write('#!/bin/sh\nfor file; do :; done; cat "$file"\n')
+    os.chmod(stand_in, 0o755)
     script = "".join(f"{command}\necho '{MARK}'\n" for command in commands)
     said = subprocess.run(
         ["sh"], input=script, text=True, cwd=folder, stdout=subprocess.PIPE, stderr=subprocess.STDOUT, timeout=600

@@ -26,10 +26,10 @@ heading() {
 }
 
 draw() {
-    "$root/draw" "$@"
+    "$root/bin/draw" "$@"
 }
 figgroup() {
-    PATH=$PATH:$root command figgroup "$@"
+    PATH=$PATH:$root/bin command figgroup "$@"
 }
 export -f draw figgroup
 export root
@@ -68,7 +68,7 @@ say "FIG_EDITOR=false draw"
 say "FIG_EDITOR='sed -i \"s/4050 660/4000 660/g\" drawing.fig; false' draw"
 say "FIG_EDITOR=true draw"
 say "FIG_EDITOR=no-editor draw 2>&1 | grep -v 'not found'"
-say "FIG_EDITOR='$root/draw undo; true' draw"
+say "FIG_EDITOR='draw undo; true' draw"
 say "ls"
 
 heading "a conflict settled in the window"

@@ -1,0 +1,21 @@
+#!/bin/sh
+# Makes the Debian package, unpacks it into a folder of its own, and draws with what lies there, without a kit.
+set -eu
+root=$(cd "$(dirname "$0")/.." && pwd)
+folder=$(mktemp -d)
+trap 'rm -rf "$folder"' EXIT
+cd "$root"
+if ! command -v dpkg-deb > /dev/null; then
+    echo "package: not tried, as there is no dpkg-deb"
+    exit 0
+fi
+make -s deb TO="$folder" > "$folder/said" 2>&1 || { cat "$folder/said" >&2; exit 1; }
+dpkg-deb -x "$folder"/figgroup_*_amd64.deb "$folder/root"
+PATH=$folder/root/usr/bin:/usr/bin:/bin
+mkdir "$folder/day"
+cd "$folder/day"
+[ "$(command -v figgroup)" = "$folder/root/usr/bin/figgroup" ]
+figgroup fig < "$root/examples/red-box/input.jsonl" | cmp - "$root/examples/red-box/expected.fig"
+draw site 3 
+FIG_EDITOR="cp '$root/examples/draw/saved/first-figure.fig'" draw 2>&1 | grep -q '^figgroup: made 3.1'
+echo "package: draws"
