@@ -1,0 +1,45 @@
+# Installs figgroup, without a proof: bin/ has the proved program.
+#
+#   make install [PREFIX=/usr/local] [DESTDIR=]   the program, draw, and what draw uses
+#   make deb [TO=.]                               a Debian package of these, figgroup_VERSION_amd64.deb
+
+PREFIX ?= /usr/local
+DESTDIR ?=
+TO ?= .
+at = $(DESTDIR)$(PREFIX)
+version = $(shell bin/figgroup --version | cut -d ' ' -f 2)+$(shell git log -1 --format=%cd.%h --date=format:%Y%m%d)
+
+.PHONY: install deb
+
+install:
+	./prove --check
+	install -d $(at)/bin $(at)/share/figgroup $(at)/share/doc/figgroup
+	install bin/figgroup bin/draw $(at)/bin
+	install -m 644 share/figgroup/* $(at)/share/figgroup
+	install -m 644 README.md bin/figgroup.sum docs/*.md $(at)/share/doc/figgroup
+
+define control
+Package: figgroup
+Version: $(version)
+Architecture: amd64
+Maintainer: the figgroup project <figgroup@localhost>
+Depends: libc6
+Recommends: xfig, jq, git, netpbm
+Suggests: fig2dev
+Section: graphics
+Priority: optional
+Description: figures drawn by a group, by a proved program
+ Up to eight designers change one drawing, and files carry the changes. No edit
+ is lost, conflicting edits become versions of an object, and whoever has the
+ same edits has the same picture.
+endef
+
+export control
+deb: package := $(shell mktemp -d)
+deb:
+	$(MAKE) install DESTDIR=$(package) PREFIX=/usr
+	install -d $(package)/DEBIAN
+	printf '%s\n' "$$control" > $(package)/DEBIAN/control
+	chmod 755 $(package)
+	dpkg-deb --root-owner-group -b $(package) $(TO)/figgroup_$(version)_amd64.deb
+	rm -r $(package)

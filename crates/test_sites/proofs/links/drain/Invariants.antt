@@ -1,6 +1,0 @@
-use Rattle.std.proofs.Common.{◌≡◌}
-use Rattle.test_sites.proofs.links.drain.Given as goal
-
--- the seat stays that of the link
-abbrev pub invariant-loop-n : goal.invariant-loop-n
-invariant-loop-n g l = l.seat.link ≡ l.link
