@@ -1,10 +1,10 @@
 #!/usr/bin/env python3
 """Changes random drawings as a designer does, takes them, and checks what comes of it.
 
-Sites make a random history by `figgroup edit`. One opens its drawing (`fig --named`) and changes it, others work on
-meanwhile, and `take` is called. The drawing has to be taken, and to be then what was saved, by its figures and by its
-picture. The operations know nothing of what others made meanwhile, and keep what these drew; an object that was not
-touched gets at most another layer. The same text again, and one that was not changed, make no more than a layer.
+Sites make a random history by `figgroup edit`, some of it aimed at a version. One opens its drawing (`fig --named`) and
+changes it, others work on meanwhile, and `take` is called. The drawing has to be taken, and to be then what was saved, by its
+figures and by its picture. The operations know nothing of what others made meanwhile, and keep what these drew; an object that
+was not touched gets at most another layer. The same text again, and one that was not changed, make no more than a layer.
 
 figgroup is found by PATH. Words: a seed, how many takes, and how many seconds at most."""
 import json
@@ -212,7 +212,7 @@ class Group:
             objects.setdefault(name, [None, []])[1].append(op["id"])
             objects[name][0] = op.get("kind", objects[name][0])
         commands = [json.dumps(self.command(site, objects)) + "\n" for _ in range(self.rand.randint(1, 4))]
-        refusals = "NoObject|WrongKind|NoVersion|waits|Field"
+        refusals = "NoObject|WrongKind|NoVersion|BadAim|waits|Field"
         made = figgroup(["edit", "--site", str(site)], self.lines(site) + "".join(commands), refusals)
         self.files[site] += made.splitlines(keepends=True)
 
@@ -230,7 +230,14 @@ class Group:
         if name is None:
             return {"site": site, "do": "create", "kind": kind, **values}
         attribute = rand.choice(list(values))
-        return {"site": site, "do": "set", "object": name, "set": attribute, "to": values[attribute]}
+        aim = {"aim": self.version(site, name)} if rand.random() < 0.1 else {}
+        return {"site": site, "do": "set", "object": name, "set": attribute, "to": values[attribute], **aim}
+
+    def version(self, site, name):
+        """The operations of a version of an object, or none where what made the object waits."""
+        told = figgroup(["inspect", "--object", "{}.{}".format(*name)], self.lines(site), "no object").splitlines()
+        ids = re.search(r"\[(.*?)\]", self.rand.choice(told))[1].split() if told else []
+        return [list(map(int, one.split("."))) for one in ids]
 
 
 class Window:
