@@ -23,7 +23,7 @@ Package: figgroup
 Version: $(version)
 Architecture: amd64
 Maintainer: the figgroup project <figgroup@localhost>
-Depends: libc6
+Depends: libc6 (>= 2.34)
 Recommends: xfig, jq, git, netpbm
 Suggests: fig2dev
 Section: graphics
