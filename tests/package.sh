@@ -5,10 +5,12 @@ root=$(cd "$(dirname "$0")/.." && pwd)
 folder=$(mktemp -d)
 trap 'rm -rf "$folder"' EXIT
 cd "$root"
-if ! command -v dpkg-deb > /dev/null; then
-    echo "package: not tried, as there is no dpkg-deb"
-    exit 0
-fi
+for tool in dpkg-deb make; do
+    if ! command -v $tool > /dev/null; then
+        echo "package: not tried, as there is no $tool"
+        exit 0
+    fi
+done
 make -s deb TO="$folder" > "$folder/said" 2>&1 || { cat "$folder/said" >&2; exit 1; }
 dpkg-deb -x "$folder"/figgroup_*_amd64.deb "$folder/root"
 PATH=$folder/root/usr/bin:/usr/bin:/bin
