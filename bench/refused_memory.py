@@ -1,5 +1,5 @@
 #!/usr/bin/env python3
-"""Runs each public call and each command with its first allocation refused, with its second, and so on to its last.
+"""Runs each call of test_memory and each command with its first allocation refused, with its second, and so on to its last.
 
 A refused call has to answer want of memory, leave what was there, and answer rightly when it is called again: test_memory
 tells by one line whether it did. A refused command has to end with status 1, want of memory for an answer, and no output but the
