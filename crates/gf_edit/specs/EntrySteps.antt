@@ -1,4 +1,4 @@
--- What one line does to what was read. No public clause cites this module.
+-- What one line does to what was read.
 use Rattle.std.specs.Prelude.{◌≡◌, ℕ, List, [], ◌∷◌, ◌++◌, Ok, Err, Some, ⊤}
 use Rattle.std.specs.Prelude.{None, find}
 use Rattle.gf_streams.specs.TextLines.{numbered_lines}

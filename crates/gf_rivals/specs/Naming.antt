@@ -1,4 +1,4 @@
--- Setters by their ids. No public clause cites this module.
+-- Setters by their ids.
 use Rattle.std.specs.Prelude.{◌≡◌, ◌↔◌, ◌⊎◌, ℕ, List, []}
 use Rattle.std.specs.Prelude.{Contains, Some, slice_get, slice_index_or}
 use Rattle.gf_ops.specs.declared.op.Op.{Op}

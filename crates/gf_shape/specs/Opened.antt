@@ -1,4 +1,4 @@
--- A polygon kept as the chain round its points. No public clause cites this module.
+-- A polygon kept as the chain round its points.
 use Rattle.std.specs.Prelude.{◌≡◌, ◌-◌, IsTrue, List, length, take}
 use Rattle.gf_plane.specs.declared.point.Point.{Point}
 use Rattle.gf_shape.specs.Polygons.{is_polygon}

@@ -1,4 +1,4 @@
--- How far the operations reach that a designer saw. No public clause cites this module.
+-- How far the operations reach that a designer saw.
 use Rattle.std.specs.Prelude.{◌≡◌, ◌⊎◌, ℕ, ◌≤◌, Bool, true, ◌||◌, nat_eq, nat_le, List, Contains}
 use Rattle.std.specs.Prelude.{if◌then◌else◌}
 use Rattle.gf_ops.specs.declared.op.Op.{Op}

@@ -1,4 +1,4 @@
--- Versions listed by their groups. No public clause cites this module.
+-- Versions listed by their groups.
 use Rattle.std.specs.Prelude.{◌≡◌, List, Contains, map, filter}
 use Rattle.gf_shape.specs.declared.any_shape.AnyShape.{AnyShape}
 use Rattle.gf_ops.specs.declared.op.Op.{Op}
