@@ -1,0 +1,150 @@
+"""The drawing of a folder: the files of its sites, the pages that are open, and what these are told."""
+import asyncio
+import contextlib
+import json
+import time
+
+import program
+from sitefile import Behind, Refusal, SiteFile
+
+SITES = range(1, 9)
+WAIT = 30  # seconds, for a file that another program has locked
+LOOK = 0.3  # seconds between looks at the files
+
+
+class Watching(Exception):
+    """Nothing was made: another page of the site draws."""
+
+
+class Drawing:
+    """One page of each site draws, by its turn: the greatest turn that was given. The others of the site watch."""
+
+    def __init__(self, folder, names):
+        self.files = {site: SiteFile(folder, site) for site in SITES}
+        self.locks = {site: asyncio.Lock() for site in SITES}
+        self.turns = {site: 0 for site in SITES}
+        self.names = names
+        self.pages = set()
+        self.changed = asyncio.Event()
+        self.told = None
+        for file in self.files.values():
+            file.open()
+
+    def lines(self):
+        return b''.join(file.lines for file in self.files.values())
+
+    # ---- Who draws
+
+    def join(self, page, turn, draws):
+        """A page comes. One that was opened just now has no turn, and draws. One that comes again draws if it did, and
+        no other page of its site came between, also before another run of this program."""
+        if turn is None:
+            turn = self.next_turn(page.site)
+        page.turn = turn
+        if draws and turn > self.turns[page.site]:
+            self.turns[page.site] = turn
+        self.tell_turns(page.site)
+        self.tell_designers()
+        if self.told:
+            page.tell(self.told)
+
+    def next_turn(self, site):
+        return max(self.turns[site] + 1, int(1000 * time.time()))
+
+    def take_over(self, page):
+        page.turn = self.turns[page.site] = self.next_turn(page.site)
+        self.tell_turns(page.site)
+
+    def draws(self, page):
+        return page.turn == self.turns[page.site]
+
+    def tell_turns(self, site):
+        for page in self.pages:
+            if page.site == site and page.turn is not None:
+                page.tell({'draws': self.draws(page), 'turn': page.turn, 'last': self.files[site].last})
+
+    # ---- What pages make
+
+    @contextlib.asynccontextmanager
+    async def held(self, site):
+        """The file of a site, locked: what is read, made and added within is one step for all who lock it."""
+        file = self.files[site]
+        async with self.locks[site]:
+            end = time.monotonic() + WAIT
+            while not (held := file.lock()):
+                if time.monotonic() > end:
+                    raise Refusal(f'another program has locked {file.path.name}')
+                await asyncio.sleep(0.02)
+            with held:
+                await asyncio.to_thread(file.finish_append, held)
+                if self.read_more() | file.read_more():
+                    self.changed.set()
+                if file.fault:
+                    raise Refusal(file.fault)
+                file.check_end(held)
+                yield file, held
+
+    async def make(self, page, request, after, change):
+        """Adds to the file of a site what `change` makes of all lines. A request that comes again, as its answer was
+        lost, makes nothing, and gets its answer."""
+        async with self.held(page.site) as (file, held):
+            known = file.made_by(*request)
+            if known:
+                new, last = known
+                return {'taken': last, 'made': new.decode(), 'said': ''}
+            if not self.draws(page):
+                raise Watching
+            if after != file.last:
+                raise Behind(file.last)
+            new, said = await change(page.site, self.lines())
+            if new:
+                await asyncio.to_thread(file.append, held, new, *request)
+                self.changed.set()
+            return {'taken': file.last, 'made': new.decode(), 'said': said}
+
+    async def take(self, page, request, after, text):
+        """Makes of the drawing that of a text."""
+        text = text.encode()
+        if not text.startswith(b'#FIG'):  # what stands before it would be read as operations
+            raise Refusal('the drawing has to begin with #FIG')
+        return await self.make(page, request, after, lambda site, lines: program.take(site, lines, text))
+
+    async def show(self, page, request, after, name, shown):
+        """Shows or hides an object of which nothing is seen."""
+        return await self.make(page, request, after, lambda site, lines: program.show(site, lines, name, shown))
+
+    # ---- What pages are told
+
+    def read_more(self):
+        """Reads what other programs added to files that no page is adding to. Tells whether there was something."""
+        return any([file.read_more() for site, file in self.files.items() if not self.locks[site].locked()])
+
+    async def watch(self):
+        while True:
+            await asyncio.sleep(LOOK)
+            if self.read_more():
+                self.changed.set()
+
+    async def publish(self):
+        """Tells all pages the drawing, whenever it changed. What changes meanwhile is told together."""
+        while True:
+            await self.changed.wait()
+            self.changed.clear()
+            try:
+                text, status = await program.named(self.lines())
+                self.told = {'drawing': text, 'status': status}
+            except Refusal as refusal:
+                self.told = {'fault': str(refusal)}
+            self.tell(self.told)
+
+    def tell_designers(self):
+        self.tell({'designers': [
+            {'site': site, 'name': self.names.get(site, f'site {site}'),
+             'pages': sum(page.site == site for page in self.pages),
+             'holds': [name for page in self.pages if page.site == site for name in page.holds]}
+            for site in SITES if site in self.names or self.files[site].lines]})
+
+    def tell(self, what):
+        message = json.dumps(what)
+        for page in self.pages:
+            page.tell(what, message)

@@ -1,0 +1,283 @@
+#!/usr/bin/python3
+"""Lets designers draw in the browser: serves the drawing of a folder, with an address for each site.
+
+    serve.py FOLDER 1=Ann 2=Ben       tells an address for each: who has it draws as that site
+
+A page gets the text of `figgroup fig --named` and sends it back changed; `figgroup take` makes operations of that, and
+they are added to the file of the site. A page and the server exchange JSON over one web socket:
+
+    page    {"page": ID, "turn": T, "draws": D}   it comes, or comes again; T is null where it was opened just now
+            {"draw": true}                 it wants to draw in place of another page of its site
+            {"take": TEXT, "request": N, "after": L}    a drawing; L is the last operation of its site that the page knows
+            {"show": OBJECT, "to": BOOL, "request": N, "after": L}    an object of which nothing is seen
+            {"holds": [OBJECTS]}           what is selected, for the others to see
+    server  {"you": SITE}
+            {"draws": BOOL, "turn": T, "last": L}    whether this page is the one of its site that draws
+            {"taken": L, "made": LINES, "said": WORDS}    what was sent is on the disk
+            {"refused": WORDS}             nothing was made of it, and why
+            {"behind": L}                  nothing was made of it, as the site has operations that the page did not know
+            {"watching": WORDS}            nothing was made of it, as another page of the site draws
+            {"again": WORDS}               the disk failed: the same is to be sent again
+            {"drawing": TEXT, "status": LINES} or {"fault": WORDS}    to all pages, whenever something changed
+            {"designers": [{site, name, pages, holds}]}      the same
+
+It needs python3-tornado, and the program figgroup (FIGGROUP names it, or it is on the PATH).
+"""
+import argparse
+import asyncio
+import fcntl
+import hmac
+import json
+import pathlib
+import re
+import secrets
+import sys
+import time
+
+try:
+    import tornado.httpserver
+    import tornado.web
+    import tornado.websocket
+except ImportError:
+    sys.exit('draw: there is no python3-tornado here: apt-get install python3-tornado')
+
+from drawing import Drawing, SITES, Watching
+from sitefile import Behind, Refusal, write_whole
+
+WEB = pathlib.Path(__file__).resolve().parent / 'web'
+TYPES = {'.html': 'text/html', '.css': 'text/css', '.js': 'text/javascript'}
+FILES = {file.name: TYPES[file.suffix] for file in WEB.iterdir() if file.suffix in TYPES}
+MOST_BYTES = 16 * 1024 * 1024  # of a message; figgroup reads as much
+MOST_PAGES = 64
+MOST_MESSAGES = 100  # at once from one page,
+PACE = 25  # and in a second
+MOST_HELD = 100  # objects of which the others see that they are selected
+OBJECT = re.compile(r'[1-8]\.[1-9][0-9]{0,4}')
+PAGE = re.compile(r'[A-Za-z0-9_-]{1,40}')
+POLICY = ("default-src 'none'; script-src 'self'; style-src 'self'; connect-src 'self'; img-src data:; "
+          "base-uri 'none'; form-action 'none'; frame-ancestors 'none'")
+HEADERS = {'Cache-Control': 'no-store', 'Content-Security-Policy': POLICY, 'Cross-Origin-Opener-Policy': 'same-origin',
+           'Cross-Origin-Resource-Policy': 'same-origin', 'X-Content-Type-Options': 'nosniff',
+           'Referrer-Policy': 'no-referrer'}  # the address has the secret
+
+
+class Guarded:
+    """Lets in who names this server and knows the secret of a site."""
+
+    def prepare(self):
+        if self.request.host not in self.settings['hosts']:  # a name that somebody else bound to this address
+            raise tornado.web.HTTPError(421)
+        secret = self.request.path.split('/')[1]
+        self.site = None
+        for site, known in self.settings['secrets'].items():
+            if hmac.compare_digest(secret.encode(), known.encode()):
+                self.site = site
+        if self.site is None:
+            raise tornado.web.HTTPError(404)
+
+    def set_default_headers(self):
+        for name, value in HEADERS.items():
+            self.set_header(name, value)
+
+
+class PageFile(Guarded, tornado.web.RequestHandler):
+    """The files of the page: those of its folder when the server began, and no others."""
+
+    def get(self, name):
+        name = name or 'index.html'
+        if name not in FILES:
+            raise tornado.web.HTTPError(404)
+        self.set_header('Content-Type', f'{FILES[name]}; charset=utf-8')
+        self.write((WEB / name).read_bytes())
+
+
+class Pace:
+    """How many messages a page may still send: so many at once, and so many more each second."""
+
+    def __init__(self):
+        self.left, self.then = MOST_MESSAGES, time.monotonic()
+
+    def allows(self):
+        now = time.monotonic()
+        self.left = min(MOST_MESSAGES, self.left + (now - self.then) * PACE)
+        self.then = now
+        self.left -= 1
+        return self.left >= 0
+
+
+class Page(Guarded, tornado.websocket.WebSocketHandler):
+    """An open page."""
+
+    def check_origin(self, origin):
+        return origin in [f'http://{host}' for host in self.settings['hosts']] + self.settings['origins']
+
+    def open(self):
+        self.drawing = self.settings['drawing']
+        self.holds, self.due, self.sending = [], {}, None
+        self.name, self.turn, self.pace = None, None, Pace()
+        if len(self.drawing.pages) >= MOST_PAGES:
+            return self.close(1013, f'{MOST_PAGES} pages are open')
+        self.drawing.pages.add(self)
+        self.set_nodelay(True)
+        self.tell({'you': self.site})
+
+    def on_close(self):
+        self.drawing.pages.discard(self)
+        self.drawing.tell_designers()
+
+    async def on_message(self, message):
+        """Answers one message before the next one is read."""
+        if not self.pace.allows():
+            return self.close(1008, 'too many messages')
+        try:
+            asked = json.loads(message)
+            answer = await self.answer(asked)
+        except (ValueError, TypeError, KeyError, AttributeError):
+            return self.close(1003, 'no such message')
+        if answer:
+            self.tell(answer)
+
+    async def answer(self, asked):
+        if 'page' in asked:
+            return self.join(asked)
+        if self.name is None:
+            raise ValueError('who is it?')
+        if 'draw' in asked:
+            return self.drawing.take_over(self)
+        if 'holds' in asked:
+            self.holds = [name for name in asked['holds'][:MOST_HELD] if OBJECT.fullmatch(name)]
+            return self.drawing.tell_designers()
+        return await self.make(asked)
+
+    def join(self, asked):
+        turn = asked['turn']
+        if not PAGE.fullmatch(asked['page']) or not (turn is None or isinstance(turn, int)):
+            raise ValueError('no such page')
+        self.name = asked['page']
+        self.drawing.join(self, turn, asked['draws'] is True)
+
+    async def make(self, asked):
+        """What a page asked for, made or not."""
+        page, number = str(asked['request']).rsplit('.', 1)
+        after = int(asked['after'])
+        if not PAGE.fullmatch(page):
+            raise ValueError('no such request')
+        request = (page, int(number))
+        try:
+            if 'take' in asked:
+                return await self.drawing.take(self, request, after, str(asked['take']))
+            if not OBJECT.fullmatch(asked['show']):
+                raise ValueError('no such object')
+            return await self.drawing.show(self, request, after, asked['show'], asked['to'] is True)
+        except Behind as behind:
+            return {'behind': behind.args[0]}
+        except Watching:
+            return {'watching': 'another page of yours draws'}
+        except Refusal as refusal:
+            return {'refused': str(refusal)}
+        except OSError as error:
+            return {'again': f'the disk failed: {error.strerror}'}
+
+    def tell(self, what, message=None):
+        """Sends it when the page has read what came before; meanwhile a newer drawing takes the place of an older one."""
+        kind = 'drawing' if 'fault' in what else next(iter(what))
+        self.due.pop(kind, None)
+        self.due[kind] = message or json.dumps(what)
+        if not self.sending:
+            self.sending = asyncio.create_task(self.send())
+
+    async def send(self):
+        try:
+            while self.due:
+                await self.write_message(self.due.pop(next(iter(self.due))))
+        except tornado.websocket.WebSocketClosedError:
+            pass  # it will come again, and ask again
+        self.sending = None
+
+
+def read_known(folder):
+    """The secret and the name of each site, as they are kept with the drawing."""
+    try:
+        known = json.loads((folder / 'drawing.secrets').read_text())
+        return {int(site): (str(secret), str(name)) for site, (secret, name) in known.items()}
+    except FileNotFoundError:
+        return {}
+
+
+def keep_known(folder, names):
+    """Those of the sites that are served, of which the new ones get a secret. git leaves out drawing.*, as `draw` says."""
+    old = read_known(folder)
+    known = {**old, **{site: (old[site][0] if site in old else secrets.token_urlsafe(16), name) for site, name in names.items()}}
+    if known != old:
+        write_whole(folder / 'drawing.secrets', json.dumps({str(site): both for site, both in known.items()}).encode())
+    return {site: known[site][0] for site in names}
+
+
+def read_words():
+    words = argparse.ArgumentParser(prog='draw page', description='Lets designers draw the drawing of a folder in the browser.')
+    words.add_argument('folder', type=pathlib.Path)
+    words.add_argument('designers', nargs='*', metavar='SITE=NAME', help='those of the last time, where none is told')
+    words.add_argument('--port', type=int, default=8140)
+    words.add_argument('--listen', default='127.0.0.1', metavar='ADDRESS', help='0.0.0.0 lets the network in, unencrypted')
+    words.add_argument('--host', action='append', default=[], metavar='NAME:PORT', help='a further name by which pages call')
+    told = words.parse_args()
+    told.names = {}
+    for designer in told.designers:
+        site, _, name = designer.partition('=')
+        if site not in map(str, SITES) or not name.strip():
+            words.error(f'a designer is told as 1=Ann, of site 1 to 8, and not as {designer}')
+        told.names[int(site)] = name.strip()[:40]
+    told.names = told.names or {site: name for site, (_, name) in read_known(told.folder).items()}
+    if not told.names:
+        words.error('who draws? 1=Ann 2=Ben tells it')
+    return told
+
+
+def hold(folder):
+    """One server for each folder."""
+    lock = open(folder / 'drawing.lock', 'w')
+    try:
+        fcntl.flock(lock, fcntl.LOCK_EX | fcntl.LOCK_NB)
+    except BlockingIOError:
+        sys.exit('draw: another server is at work in this folder')
+    return lock
+
+
+def say_where(told, known):
+    name = told.host[0] if told.host else f'127.0.0.1:{told.port}'
+    for site, designer in told.names.items():
+        print(f'{designer} draws at http://{name}/{known[site]}/', flush=True)
+    if told.listen not in ('127.0.0.1', 'localhost', '::1'):
+        print(f'draw: {told.listen} is not encrypted: who sees the network can read and draw. '
+              'Elsewhere than at home use ssh -L, or a server with TLS before it.', file=sys.stderr, flush=True)
+
+
+async def main():
+    told = read_words()
+    lock = hold(told.folder)
+    known = keep_known(told.folder, told.names)
+    hosts = {f'127.0.0.1:{told.port}', f'localhost:{told.port}', *told.host}
+    if told.listen not in ('0.0.0.0', '::'):
+        hosts.add(f'{told.listen}:{told.port}')
+    drawing = Drawing(told.folder, told.names)
+    application = tornado.web.Application(
+        [(r'/[^/]+/live', Page), (r'/[^/]+/([a-z.]*)', PageFile)], drawing=drawing, secrets=known, hosts=hosts,
+        origins=[f'https://{host}' for host in told.host],
+        log_function=lambda handler: None,  # no secrets in logs
+        websocket_max_message_size=MOST_BYTES, websocket_ping_interval=20)
+    server = tornado.httpserver.HTTPServer(application, max_body_size=MOST_BYTES, idle_connection_timeout=60)
+    try:
+        server.listen(told.port, told.listen)
+    except OSError as error:
+        sys.exit(f'draw: {told.listen} port {told.port}: {error.strerror}')
+    say_where(told, known)
+    drawing.changed.set()
+    with lock:
+        await asyncio.gather(drawing.watch(), drawing.publish())
+
+
+if __name__ == '__main__':
+    try:
+        asyncio.run(main())
+    except KeyboardInterrupt:
+        pass

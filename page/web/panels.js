@@ -1,0 +1,268 @@
+// What stands around the canvas: the state, questions, colours, measures, designers, and what is to be settled.
+import {attributes, bounds, element, fitted, inWords, join, meet, svg} from './figure.js';
+import {conflicts, hidden, whose} from './versions.js';
+import {HINTS, TOOLS, WORDS} from './words.js';
+
+const COLOURS = ['#1b1b1f', '#5f6672', '#b8bec9', '#ffffff', '#d64545', '#ef8354', '#f4c95d', '#fff3c4',
+    '#2e7d32', '#8bc34a', '#1b998b', '#bfe3d0', '#2d4a8a', '#4f7cac', '#a9d0f5', '#7d5ba6'];
+const MOST_OWN = 16;            // colours of the drawing that are offered
+const LIMIT = 10000, FEW = 1000;  // operations of a site; from so few left on it is told
+const STATES = {
+    offline: 'No connection: what you draw is kept here', sending: 'Saving …', saved: 'Saved', watching: 'Watching',
+    refused: 'Not taken: mend what is marked', asked: 'Gestures wait for your word',
+};
+const NEED = ['copy', 'delete', 'front', 'up', 'down', 'ground'];  // words for what is selected
+
+const html = (name, properties = {}, ...inner) => {
+    const made = Object.assign(document.createElement(name), properties);
+    made.append(...inner);
+    return made;
+};
+const find = selector => document.querySelector(selector);
+const all = selector => document.querySelectorAll(selector);
+
+// A key as it stands on the keyboard.
+const printed = key => key.replace(/^Ctrl\+(.)$/, (_, letter) =>
+    letter === letter.toUpperCase() ? `Ctrl+Shift+${letter}` : `Ctrl+${letter.toUpperCase()}`);
+
+// Puts such elements there, unless they read the same: so the focus stays where it is.
+function put(selector, key, make) {
+    const root = find(selector);
+    if (root.dataset.shows === key) return;
+    root.dataset.shows = key;
+    root.replaceChildren(...make());
+}
+
+export class Panels {
+    #due = null;
+    #spoken = '';
+
+    constructor(drawing, live, canvas, gestures) {
+        Object.assign(this, {drawing, live, canvas, gestures});
+        for (const target of [drawing, live, canvas])
+            for (const event of ['shown', 'told', 'looked']) target.addEventListener(event, () => this.#later());
+        live.addEventListener('news', ({detail}) => this.speak(`others changed ${detail} ${detail > 1 ? 'objects' : 'object'}`));
+        find('#swatches').append(...COLOURS.map(colour => this.#swatch(colour)));
+        find('#own').onchange = event => this.paint(event.target.value);
+        find('#corners').onchange = () => this.#bend();
+        find('#more').onclick = () => document.body.classList.toggle('open');
+        for (const input of all('#measures input[data-side]')) input.onchange = () => this.#measure();
+        this.#help();
+    }
+
+    // Many events at once are one round of work.
+    #later() {
+        this.#due ??= requestAnimationFrame(() => {
+            this.#due = null;
+            this.show();
+        });
+    }
+
+    show() {
+        this.#state();
+        this.#bar();
+        this.#conflicts();
+        this.#hidden();
+        this.#designers();
+        this.#colours();
+        this.#measures();
+        this.#bubbles();
+        this.#buttons();
+    }
+
+    // Tells it to who hears the page.
+    speak(words) {
+        find('#spoken').textContent = words;
+    }
+
+    // ---- Colours
+
+    #swatch(colour) {
+        const made = html('button', {className: 'swatch', title: colour, onclick: () => this.paint(colour)});
+        made.style.background = colour;
+        return made;
+    }
+
+    paint(colour) {
+        this.gestures.colour = colour;
+        this.drawing.changeChosen(figure => figure.colour === colour ? figure : {...figure, colour});
+        this.#later();
+    }
+
+    #colours() {
+        const used = [...new Set(this.drawing.figures.map(({colour}) => colour))]
+            .filter(colour => !COLOURS.includes(colour)).slice(0, MOST_OWN);
+        put('#used', used.join(), () => used.map(colour => this.#swatch(colour)));
+        const chosen = new Set(this.drawing.chosen.map(figure => figure.colour));
+        for (const swatch of all('.swatch')) {
+            swatch.classList.toggle('on', chosen.has(swatch.title));
+            swatch.setAttribute('aria-pressed', chosen.has(swatch.title));
+        }
+        find('#colour i').style.background = this.gestures.colour;
+        if (document.activeElement !== find('#own')) find('#own').value = this.gestures.colour;
+    }
+
+    // ---- The state, and what is asked
+
+    #state() {
+        const {state, words, store, last} = this.live, left = LIMIT - last;
+        find('#state').className = state;
+        const said = store.full ? 'No room to keep it here: leave this page open' : STATES[state];
+        if (find('#state').textContent !== said) find('#state').textContent = said;
+        find('#state').title = words;
+        put('#left', left > FEW ? '' : String(left), () => left > FEW ? [] : [
+            html('p', {}, left > 0 ? `${left} of your 10,000 operations are left.` : 'Your 10,000 operations are used up.'),
+            html('p', {}, html('code', {}, 'draw anew FOLDER'), ' begins a new drawing from this picture.'),
+        ]);
+    }
+
+    // Watching, gestures that wait, a refusal: a line over the canvas, with what can be done.
+    #bar() {
+        const {live} = this, {state, asked, joined} = live;
+        const button = (words, run) => html('button', {onclick: run, disabled: !joined}, words);
+        const count = asked?.changes.length ?? 0;
+        const bars = {
+            watching: () => [html('span', {}, 'Another page of yours draws: this one watches.'),
+                button('Draw here', () => live.takeOver())],
+            asked: () => [html('span', {}, `${count} ${count > 1 ? 'changes wait' : 'change waits'} here, outlined: meanwhile your site drew elsewhere.`),
+                button('Draw them anew on the newest drawing', () => live.makeAnew()), button('Drop them', () => live.drop())],
+            refused: () => [html('span', {}, 'This is not taken yet. Mend it, or undo it.'),
+                button('Try again', () => live.sendAgain())],
+        };
+        const shows = asked ? 'asked' : bars[state] ? state : '';
+        put('#bar', `${shows} ${count} ${joined}`, () => shows ? bars[shows]() : []);
+    }
+
+    // What figgroup says of a figure stands at it.
+    #bubbles() {
+        const {faults, state, words, fault} = this.live;
+        const bubbles = this.drawing.figures.filter(({key}) => faults.has(key)).map(figure => {
+            const [left, , , bottom] = bounds(figure), [x, y] = this.canvas.pixel([left, bottom]);
+            const bubble = html('p', {className: 'bubble'}, faults.get(figure.key));
+            bubble.style.left = `${Math.max(70, Math.min(x, innerWidth - 560))}px`;
+            bubble.style.top = `${Math.max(70, Math.min(y + 8, innerHeight - 80))}px`;
+            return bubble;
+        });
+        if (fault || state === 'refused' && !bubbles.length)
+            bubbles.push(html('p', {className: 'bubble middle'}, fault || words));
+        find('#bubbles').replaceChildren(...bubbles);
+    }
+
+    // ---- What is to be settled
+
+    // Two designers changed one object at once: each version with a picture, and a click keeps it.
+    #conflicts() {
+        const {figures} = this.drawing, {live} = this, found = conflicts(figures, live);
+        const names = [...found.keys()], key = names.length ? JSON.stringify([...found.values(), live.designers.length, live.mayDraw]) : '';
+        const seen = key ? key + figures.length : '';
+        put('#conflicts', seen, () => names.length
+            ? [html('h2', {}, 'Choose a version'), ...[...found].map(([object, versions]) => this.#card(object, versions))] : []);
+        const told = names.length ? `${names.length} objects have versions in conflict` : '';
+        if (told && told !== this.#spoken) this.speak(told);
+        this.#spoken = told;
+        find('#more').dataset.count = names.length + hidden(live).length || '';
+    }
+
+    #card(object, versions) {
+        const figures = versions.map(({figure}) => figure), [left, top, right, bottom] = join(figures.map(bounds));
+        const [x, y] = [(left + right) / 2, (top + bottom) / 2], half = .65 * Math.max(right - left, (bottom - top) * 4 / 3);
+        const around = [x - half, y - half * 3 / 4, x + half, y + half * 3 / 4];
+        return html('article', {},
+            html('h3', {}, `${versions.length} versions of ${figures[0].kind} ${object}`),
+            html('div', {className: 'versions'}, ...versions.map(({figure, designer}) => {
+                const others = new Set(figures.filter(other => other !== figure).map(({key}) => key));
+                const name = whose(figure, designer, this.live);
+                const card = html('button', {onclick: () => this.keep(figure, others), disabled: !this.live.mayDraw},
+                    this.#picture(around, others), html('b', {}, name), html('span', {}, 'Keep this one'));
+                card.setAttribute('aria-label', `Keep ${name}: ${inWords(figure)}`);
+                card.style.setProperty('--whose', designer.colour);
+                card.dataset.keep = figure.key;
+                return card;
+            })));
+    }
+
+    #picture(around, without) {
+        const [left, top, right, bottom] = around;
+        return svg('svg', {viewBox: [left, top, right - left, bottom - top].join(' '), 'aria-hidden': true},
+            ...this.drawing.figures.filter(figure => !without.has(figure.key) && meet(bounds(figure), around))
+                .map(figure => svg(element(figure), attributes(figure))));
+    }
+
+    keep(figure, others) {
+        this.drawing.change(this.drawing.figures.filter(({key}) => !others.has(key)), [figure.key]);
+    }
+
+    #hidden() {
+        const {live} = this, found = hidden(live), off = !live.mayDraw || !live.joined;
+        put('#hidden', JSON.stringify([found, off]), () => found.map(({object, words}) => html('article', {},
+            html('p', {}, words), html('div', {className: 'choice'},
+                html('button', {onclick: () => live.show(object, true), disabled: off}, 'Show it'),
+                html('button', {onclick: () => live.show(object, false), disabled: off}, 'Leave it deleted')))));
+    }
+
+    // ---- Designers, measures, buttons
+
+    #designers() {
+        const {designers, site: own} = this.live;
+        put('#designers', JSON.stringify(designers.map(({site, name, pages}) => [site, name, pages])), () =>
+            designers.map(({site, name, pages}) => {
+                const row = html('li', {className: pages ? 'here' : ''}, html('i', {}), name,
+                    html('small', {}, site === own ? '(you)' : pages ? '' : '(away)'));
+                row.style.setProperty('--whose', `var(--site-${site})`);
+                return row;
+            }));
+        const you = designers.find(({site}) => site === own);
+        if (you) document.title = `${you.name} – figgroup`;
+    }
+
+    #measures() {
+        const {chosen} = this.drawing, panel = find('#measures');
+        panel.hidden = !chosen.length;
+        if (!chosen.length || panel.contains(document.activeElement)) return;
+        const [left, top, right, bottom] = join(chosen.map(bounds));
+        [left, top, right - left, bottom - top].forEach((value, i) => find(`[data-side="${i}"]`).value = value);
+        const polygon = chosen.length === 1 && chosen[0].kind === 'polygon';
+        find('#corners').parentNode.hidden = !polygon;
+        if (polygon) find('#corners').value = chosen[0].shape.join(' ').replace(/(\S+) (\S+)/g, '$1,$2');
+    }
+
+    #measure() {
+        const side = i => Math.round(Number(find(`[data-side="${i}"]`).value)), [x, y, width, height] = [0, 1, 2, 3].map(side);
+        const from = join(this.drawing.chosen.map(bounds)), to = [x, y, x + Math.max(1, width), y + Math.max(1, height)];
+        if (String(from) !== String(to)) this.drawing.changeChosen(figure => fitted(figure, from, to));
+    }
+
+    #bend() {
+        const shape = find('#corners').value.split(/[\s,]+/).filter(Boolean).map(value => Math.round(Number(value)));
+        if (shape.length >= 6 && shape.length % 2 === 0 && shape.every(Number.isFinite))
+            this.drawing.changeChosen(figure => String(figure.shape) === String(shape) ? figure : {...figure, shape});
+    }
+
+    #buttons() {
+        const {drawing, canvas, live, gestures} = this, off = !live.mayDraw;
+        for (const button of all('button[data-tool]')) {
+            button.classList.toggle('on', button.dataset.tool === canvas.tool);
+            button.setAttribute('aria-pressed', button.dataset.tool === canvas.tool);
+        }
+        for (const word of NEED) find(`[data-do=${word}]`).disabled = off || !drawing.selected.size;
+        find('[data-do=undo]').disabled = off || !drawing.done.length;
+        find('[data-do=redo]').disabled = off || !drawing.undone.length;
+        find('#scale').textContent = `${Math.round(1500 / canvas.view.unit)} %`;  // xfig has 15 units a pixel
+        find('#snap').checked = canvas.snap;
+        find('#done').hidden = gestures.corners < 3;
+        find('#count').textContent = String(drawing.figures.length);
+    }
+
+    // ---- The help
+
+    ask(what) {
+        if (what === 'colour') find('#own').showPicker();
+        else find('#help').showModal();
+    }
+
+    #help() {
+        const rows = [...TOOLS, ...WORDS].map(([, keys, tells]) => [keys.map(printed).join(', '), tells]);
+        find('#keys').append(...[...rows, ...HINTS].map(([keys, tells]) =>
+            html('div', {}, html('dt', {}, keys), html('dd', {}, tells))));
+    }
+}
