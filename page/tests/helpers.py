@@ -151,7 +151,7 @@ class Page:
     def pixel(self, x, y):
         return [round(value) for value in self.module('return canvas.pixel(given)', x, y)]
 
-    def drag(self, *points, steps=3, hold=False, keys=()):
+    def drag(self, *points, steps=3, hold=False):
         """A drag of the left button through points, which are told in units of the drawing."""
         self.drag_pixels(*[self.pixel(*point) for point in points], steps=steps, hold=hold)
 
@@ -251,6 +251,11 @@ class Page:
     def wait_text(self, selector, words):
         """Waits until so many elements read so."""
         wait(lambda: self.text(selector) == words, what=lambda: f'{self.text(selector)} and not {words}')
+
+    def mute(self, on=True):
+        """Lets nothing through to the server."""
+        self.js('''window.say ??= WebSocket.prototype.send;
+            WebSocket.prototype.send = arguments[0] ? () => {} : window.say''', on)
 
     def shot(self, path):
         self.here().save_screenshot(str(path))

@@ -96,6 +96,7 @@ export class Gestures {
 
     #press(event) {
         this.endNudge();
+        this.live.start();  // nothing newer is shown while a button is down
         const at = this.canvas.at(event), {key, edge, corner, between: gap} = event.target.dataset;
         if (event.button === 1 || event.button === 2 || this.panning) return this.#pan(event);
         if (event.button) return;

@@ -65,7 +65,7 @@ function stepThrough(name, target) {
     if (!by || target !== canvas.root) return false;
     const keys = drawing.figures.map(({key}) => key), chosen = keys.findIndex(key => drawing.selected.has(key));
     const next = chosen < 0 ? (by > 0 ? 0 : keys.length - 1) : chosen + by;
-    drawing.select(keys[next] ? [keys[next]] : []);
+    if (keys[next]) drawing.select([keys[next]]);
     return Boolean(keys[next]);
 }
 

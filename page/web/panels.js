@@ -11,6 +11,7 @@ const STATES = {
     offline: 'No connection: what you draw is kept here', sending: 'Saving …', saved: 'Saved', watching: 'Watching',
     refused: 'Not taken: mend what is marked', asked: 'Gestures wait for your word',
 };
+const USED_UP = 'Your 10,000 operations are used up.';
 const NEED = ['copy', 'delete', 'front', 'up', 'down', 'ground'];  // words for what is selected
 
 const html = (name, properties = {}, ...inner) => {
@@ -111,7 +112,7 @@ export class Panels {
         if (find('#state').textContent !== said) find('#state').textContent = said;
         find('#state').title = words;
         put('#left', left > FEW ? '' : String(left), () => left > FEW ? [] : [
-            html('p', {}, left > 0 ? `${left} of your 10,000 operations are left.` : 'Your 10,000 operations are used up.'),
+            html('p', {}, left > 0 ? `${left} of your 10,000 operations are left.` : USED_UP),
             html('p', {}, html('code', {}, 'draw anew FOLDER'), ' begins a new drawing from this picture.'),
         ]);
     }
@@ -144,7 +145,7 @@ export class Panels {
             return bubble;
         });
         if (fault || state === 'refused' && !bubbles.length)
-            bubbles.push(html('p', {className: 'bubble middle'}, fault || words));
+            bubbles.push(html('p', {className: 'bubble middle'}, fault || (words.includes('Exhausted') ? USED_UP : words)));
         find('#bubbles').replaceChildren(...bubbles);
     }
 

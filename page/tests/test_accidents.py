@@ -1,0 +1,134 @@
+#!/usr/bin/python3
+"""Offline, killed, closed, and other programs in the same folder."""
+import pathlib
+import shutil
+import unittest
+
+from cases import PageTest, shot
+from helpers import Keys, wait
+
+FIRST = '#4f7cac'
+
+
+class Accidents(PageTest):
+    def test_offline_and_back(self):
+        ann, ben = self.page(1), self.page(2)
+        ann.draw('r', (0, 0), (1000, 1000))
+        wait(lambda: len(ben.figures) == 1)
+        ann.wait_for('saved')
+        self.server.kill()
+        ann.wait_for('offline')
+        ben.wait_for('offline')
+        ann.drag((500, 500), (500, 3500))
+        ann.press(Keys.ESCAPE)
+        ann.draw('c', (2000, 0), (3000, 1000))
+        ben.drag((500, 500), (4500, 500))
+        shot(ben, 'offline')
+        self.server.start()
+        for page in (ann, ben):
+            page.wait_for('saved')
+            wait(lambda: len(page.figures) == 3, what=lambda: page.figures)
+        self.assertIn('object 1.1 place', self.server.figgroup('status'))
+        self.assertEqual(4, len(self.server.operations()))
+
+    def test_closed_while_offline(self):
+        page = self.page()
+        page.draw('r', (0, 0), (1000, 1000))
+        page.press(Keys.ESCAPE)
+        page.button('[title="#2e7d32"]')
+        page.draw('r', (500, 3500), (1500, 4500))
+        self.made(2)
+        page.wait_for('saved')
+        self.server.kill()
+        page.wait_for('offline')
+        page.drag((250, 500), (250, 3500))
+        page.button('[data-do=front]')
+        page.here().get('data:,')
+        self.server.start()
+        page.here().get(self.server.address[1])
+        page.wait_for('saved')
+        page.wait_figures(['rect #2e7d32 500 3500 1000 1000', f'rect {FIRST} 0 3000 1000 1000'])
+        self.assertEqual('4f7cac', self.server.colour_at(700, 3700))
+
+    def test_killed_between_gestures(self):
+        page = self.page()
+        for i in range(8):
+            page.press(Keys.ESCAPE)
+            page.draw('r', (0, 600 * i), (500, 600 * i + 500))
+            self.restart()
+        page.wait_for('saved')
+        wait(lambda: len(self.server.operations()) == 8, what=lambda: self.server.operations())
+        wait(lambda: len(page.figures) == 8)
+        self.assertEqual('', self.server.figgroup('check'))
+
+    def test_disk_lost_lines(self):
+        """Where a file loses operations nothing is added to it, and the page says so."""
+        page = self.page()
+        page.draw('r', (0, 0), (1000, 1000))
+        self.made(1)
+        page.wait_for('saved')
+        path = self.server.folder / 'site-1.jsonl'
+        kept = path.read_bytes()
+        path.write_bytes(b'')
+        page.drag((500, 500), (1500, 500))
+        page.wait_for('refused')
+        wait(lambda: 'lost or changed' in ''.join(page.text('.bubble')))
+        path.write_bytes(kept)
+        page.button_of('Try again')
+        page.wait_for('saved')
+        self.made(2)
+
+
+class Beside(PageTest):
+    """draw and the real xfig in the same folder."""
+
+    def test_another_program(self):
+        """Another designer draws in the same folder with `draw`; here the editor is sed."""
+        page = self.page()
+        page.draw('r', (0, 0), (1000, 1000))
+        self.made(1)
+        self.server.draw('site', '3').communicate()
+        said, _ = self.server.draw(editor="sed -i 's/^0 32 .*/0 32 #aa0000/'").communicate()
+        self.assertIn('made 3.1: 1 changed', said)
+        page.wait_figures(['rect #aa0000 0 0 1000 1000'])
+        page.drag((500, 500), (1500, 500))
+        self.assertEqual([1, 0, 1], self.made(3)[1]['past'][:3])
+
+    def test_words_of_the_same_site(self):
+        """A word of draw for the page's own site: the page goes on from it; what it drew at once is asked."""
+        page = self.page()
+        page.draw('r', (0, 0), (1000, 1000))
+        self.made(1)
+        page.wait_for('saved')
+        self.server.draw('site', '1').communicate()
+        page.drag((500, 500), (2500, 500), hold=True)
+        said, _ = self.server.draw('set', '1.1', 'colour', 'aa0000').communicate()
+        self.assertIn('made 1.2', said)
+        page.release()
+        page.wait_for('asked')
+        page.button_of('Draw them anew')
+        page.wait_figures(['rect #aa0000 2000 0 1000 1000'])
+        self.made(3)
+
+    def test_xfig(self):
+        """While the window of the real xfig is open on site 3, a page draws: both keep what they did."""
+        if not all(shutil.which(word) for word in ('xfig', 'Xvfb', 'xdotool')):
+            self.skipTest('xfig, xvfb and xdotool are not here')
+        page = self.page()
+        page.draw('r', (0, 0), (1000, 1000))
+        self.made(1)
+        self.server.draw('site', '3').communicate()
+        window = self.server.draw(editor=str(pathlib.Path(__file__).with_name('xfig_editor.sh')))
+        wait((self.server.folder / 'drawing.fig').exists)
+        page.wait_for('saved')
+        page.drag((500, 500), (1500, 500))
+        page.wait_for('saved')
+        said, _ = window.communicate(timeout=90)
+        self.assertIn('figgroup: made 3.1: 1 drawn', said)
+        wait(lambda: len(page.figures) == 2 and f'rect {FIRST} 1000 0 1000 1000' in page.figures, what=lambda: page.figures)
+        self.assertEqual([1, 0, 0], self.server.operations(3)[0]['past'][:3])
+        self.assertEqual([1, 0, 0], self.server.operations(1)[-1]['past'][:3])
+
+
+if __name__ == '__main__':
+    unittest.main(verbosity=2)

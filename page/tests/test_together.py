@@ -1,0 +1,220 @@
+#!/usr/bin/python3
+"""What several designers do at once, each in a page, and what two pages of one site do."""
+import unittest
+
+from cases import PageTest, shot
+from helpers import Keys, wait
+
+FIRST = '#4f7cac'
+
+
+class Together(PageTest):
+    def two(self):
+        """Ann and Ben, and a box that Ann drew."""
+        ann, ben = self.page(1), self.page(2)
+        ann.draw('r', (1000, 1000), (2000, 2000))
+        ben.wait_figures([f'rect {FIRST} 1000 1000 1000 1000'])
+        ann.wait_for('saved')
+        return ann, ben
+
+    def two_versions(self):
+        ann, ben = self.two()
+        # Both press at the same time on the same drawing; each releases without having seen the other.
+        ann.drag((1500, 1500), (1500, 3500), hold=True)
+        ben.drag((1500, 1500), (4500, 1500), hold=True)
+        ann.release()
+        ann.wait_for('saved')
+        ben.release()
+        for page in (ann, ben):
+            wait(lambda: len(page.figures) == 2, what=lambda: page.figures)
+        return ann, ben
+
+    def test_conflict_and_keep(self):
+        """A click on Ben's place settles it for both."""
+        ann, ben = self.two_versions()
+        for page in (ann, ben):
+            wait(lambda: sorted(page.text('.versions b')) == ["Ann's place", "Ben's place"], what=lambda: page.text('.versions b'))
+        self.assertEqual(['A', 'B'], sorted(ben.text('.badge text')))
+        wait(lambda: '1 objects' in ''.join(ben.text('#spoken')), what=lambda: ben.text('#spoken'))
+        shot(ann, 'conflict')
+        ann.button_of("Ben's place")
+        for page in (ann, ben):
+            page.wait_figures([f'rect {FIRST} 4000 1000 1000 1000'])
+            page.wait_text('.versions b', [])
+        self.assertNotIn('object', self.server.figgroup('status').replace('object 1.1 has 2 versions, 1 shown', ''))
+
+    def test_both_keep_the_other_ones(self):
+        """Ann keeps Ben's, Ben keeps Ann's, at once: both are seen again."""
+        ann, ben = self.two_versions()
+        for page in (ann, ben):
+            page.wait_for('saved')
+        ben.module('live.start()')  # as if a button were down, so that nothing newer is shown
+        ann.button_of("Ben's place")
+        ann.wait_for('saved')
+        ben.button_of("Ann's place")
+        ben.module('live.rest()')
+        for page in (ann, ben):
+            wait(lambda: len(page.figures) == 2, what=lambda: page.figures)
+            wait(lambda: len(page.text('.versions b')) == 2, what=lambda: page.text('.versions b'))
+
+    def test_others_do_not_disturb_a_gesture(self):
+        """While the mouse is down nothing moves under it; a change of something else is no conflict."""
+        ann, ben = self.two()
+        ben.drag((1500, 1500), (3500, 1500), hold=True)
+        ann.button('[title="#2e7d32"]')
+        ann.wait_for('saved')
+        wait(lambda: ben.module('return live.status').count('site 1 has 2'))  # it came, and is not shown
+        self.assertEqual([f'rect {FIRST} 3000 1000 1000 1000'], ben.figures)
+        ben.release()
+        for page in (ann, ben):
+            page.wait_figures(['rect #2e7d32 3000 1000 1000 1000'])
+
+    def test_what_others_hold(self):
+        ann, ben = self.two()
+        ann.click(1500, 1500)
+        wait(lambda: ben.text('.tag text') == ['Ann'], what=lambda: ben.text('.tag text'))
+        self.assertEqual(1, len(ben.text('.held')))
+        ann.press(Keys.ESCAPE)
+        wait(lambda: ben.text('.tag text') == [])
+
+    def hidden(self):
+        ann, ben = self.two()
+        ben.drag((1500, 1500), (3500, 1500), hold=True)
+        ann.press(Keys.DELETE)
+        ann.wait_for('saved')
+        ben.release()
+        ben.wait_text('#hidden p', ['Ben changed 1.1, which was deleted at the same time.'])
+        ben.wait_for('saved')
+        return ann, ben
+
+    def test_deleted_and_changed(self):
+        ann, ben = self.hidden()
+        shot(ben, 'hidden')
+        ben.button_of('Show it')
+        for page in (ann, ben):
+            page.wait_figures([f'rect {FIRST} 3000 1000 1000 1000'])
+            page.wait_text('#hidden p', [])
+        ben.draw('r', (0, 3000), (500, 3500))  # what is drawn then does not hide it again
+        for page in (ann, ben):
+            wait(lambda: len(page.figures) == 2, what=lambda: page.figures)
+
+    def test_left_deleted(self):
+        ann, ben = self.hidden()
+        ann.button_of('Leave it deleted')
+        for page in (ann, ben):
+            page.wait_text('#hidden p', [])
+            self.assertEqual([], page.figures)
+
+    def test_colours_of_designers(self):
+        ann, ben = self.two()
+        wait(lambda: ann.text('#designers li') == ['Ann(you)', 'Ben'], what=lambda: ann.text('#designers li'))
+        ben.driver.switch_to.window(ben.window)
+        ben.driver.get('data:,')
+        wait(lambda: ann.text('#designers li') == ['Ann(you)', 'Ben(away)'], what=lambda: ann.text('#designers li'))
+
+
+class OneSite(PageTest):
+    """Two pages of one site: one draws, the other one watches."""
+
+    def two(self):
+        one = self.page(1)
+        one.draw('r', (0, 0), (1000, 1000))
+        self.made(1)
+        one.wait_for('saved')
+        two = self.page(1)
+        one.wait_for('watching')
+        return one, two
+
+    def test_the_last_one_draws(self):
+        one, two = self.two()
+        one.wait_text('#bar span', ['Another page of yours draws: this one watches.'])
+        shot(one, 'watching')
+        one.drag((500, 500), (2500, 500))
+        one.press('r')
+        one.drag((3000, 3000), (4000, 4000))
+        two.drag((500, 500), (500, 2500))
+        for page in (one, two):
+            page.wait_figures([f'rect {FIRST} 0 2000 1000 1000'])
+        self.assertEqual(2, len(self.server.operations()))
+
+    def test_draw_here(self):
+        one, two = self.two()
+        one.button_of('Draw here')
+        two.wait_for('watching')
+        one.wait_for('saved')
+        one.drag((500, 500), (2500, 500))
+        for page in (one, two):
+            page.wait_figures([f'rect {FIRST} 2000 0 1000 1000'])
+
+    def test_back_behind_a_kill(self):
+        """Who drew draws again, and the other one watches again."""
+        one, two = self.two()
+        self.restart()
+        two.wait_for('saved')
+        one.wait_for('watching')
+        two.drag((500, 500), (2500, 500))
+        one.wait_figures([f'rect {FIRST} 2000 0 1000 1000'])
+
+    def waiting(self):
+        """One drew while it was offline, and another page of its site took over meanwhile, and drew."""
+        one = self.page(1)
+        one.draw('r', (0, 0), (1000, 1000))
+        self.made(1)
+        one.wait_for('saved')
+        self.server.kill()
+        one.wait_for('offline')
+        one.drag((500, 500), (500, 3500))
+        one.press(Keys.ESCAPE)
+        one.draw('c', (3000, 3000), (4000, 4000))
+        one.mute()  # so that it comes last
+        self.server.start()
+        two = self.page(1)
+        two.click(500, 500)
+        two.button('[title="#d64545"]')
+        self.made(2)
+        two.wait_for('saved')
+        one.mute(False)
+        self.restart()
+        one.wait_for('asked')
+        two.wait_for('saved')
+        one.wait_figures(['rect #d64545 0 0 1000 1000'])
+        wait(lambda: len(one.text('.waits')) == 2)
+        self.assertIn('2 changes wait here', one.text('#bar span')[0])
+        shot(one, 'asked')
+        return one, two
+
+    def test_waiting_gestures_made_anew(self):
+        one, two = self.waiting()
+        one.button_of('Draw them anew')
+        for page in (one, two):
+            page.wait_figures(['rect #d64545 0 3000 1000 1000', f'ellipse {FIRST} 3500 3500 500 500'])
+        one.wait_for('saved')
+        two.wait_for('watching')
+        self.made(4)
+
+    def test_waiting_gestures_dropped(self):
+        one, two = self.waiting()
+        one.button_of('Drop them')
+        one.wait_for('watching')
+        wait(lambda: one.text('.waits') == [])
+        one.button_of('Draw here')
+        one.wait_for('saved')
+        one.drag((500, 500), (1500, 500))
+        for page in (one, two):
+            page.wait_figures(['rect #d64545 1000 0 1000 1000'])
+        self.made(3)
+
+    def test_waiting_gestures_outlive_their_page(self):
+        """Asked, and closed before the answer: a page of the site that is opened later asks."""
+        one, two = self.waiting()
+        one.here().get('data:,')
+        two.wait_for('saved')
+        three = self.page(1, 'asked')
+        three.button_of('Draw them anew')
+        for page in (two, three):
+            page.wait_figures(['rect #d64545 0 3000 1000 1000', f'ellipse {FIRST} 3500 3500 500 500'])
+        self.assertEqual([], three.js('return Object.keys(localStorage)'))
+
+
+if __name__ == '__main__':
+    unittest.main(verbosity=2)
