@@ -30,7 +30,7 @@ can_test() {
 # Runs the tests of a file, and shows what they said if one failed.
 run() {
     local began=$SECONDS
-    if timeout 600 "$python" -W ignore "$1" > "$log" 2>&1; then
+    if timeout --foreground 400 "$python" -W ignore "$1" > "$log" 2>&1; then
         echo "page: $1: $(sed -n 's/^Ran \([0-9]* tests*\) in .*/\1/p' "$log"), $((SECONDS - began)) s$(skipped)"
     else
         cat "$log" >&2

@@ -153,22 +153,26 @@ class Gestures(PageTest):
         self.assertTrue(all(abs(value - 2024) <= 8 for value in place), place)
         self.assertNotEqual(0, place[0] % 100)
 
+    def fill(self, field, words):
+        field.send_keys(Keys.CONTROL, 'a', Keys.NULL)
+        field.send_keys(words, Keys.TAB)
+
     def test_measures_and_corners(self):
         page = self.page()
         page.draw('r', (0, 0), (1000, 1000))
         self.made(1)
         page.wait_for('saved')
         field = page.here().find_element('css selector', '[data-side="2"]')
-        field.send_keys(Keys.CONTROL + 'a', '2500', Keys.TAB)
+        self.fill(field, '2500')
         self.assertEqual(('size', [2500, 1000]), self.last(2, 'set', 'to'))
         page.press(Keys.ESCAPE)
         page.here().find_element('css selector', '#canvas').send_keys('b', Keys.ENTER)
         self.made(3)
         page.wait_for('saved')
         field = page.here().find_element('css selector', '#corners')
-        field.send_keys(Keys.CONTROL + 'a', '0,0 900,0 900,900 0,900', Keys.TAB)
-        self.assertEqual([[0, 0], [900, 0], [900, 900], [0, 900]],
-                         next(operation['to'] for operation in self.made(5)[3:] if operation['set'] == 'points'))
+        self.fill(field, '0,0 900,0 900,900 0,900')
+        page.wait_figures([f'rect {FIRST} 0 0 2500 1000', f'polygon {FIRST} 0 0 900 0 900 900 0 900'])
+        self.assertEqual(('points',), self.last(4, 'set'))
 
     def test_refused_and_mended(self):
         """65 corners are one too many: told at the figure, and taken as soon as two clicks took one out."""

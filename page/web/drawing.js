@@ -54,7 +54,7 @@ export class Drawing extends EventTarget {
     mayChange = () => true;   // whether gestures are taken now
     #renamed = new Map();
 
-    // The key that a figure has now, which had this one once.
+    // The key that a figure has now, which had this one once. What is shown has its own.
     find = key => {
         while (this.#renamed.has(key)) key = this.#renamed.get(key);
         return key;
@@ -131,6 +131,7 @@ export class Drawing extends EventTarget {
         const old = new Map(this.figures.map(figure => [figure.key, figure]));
         const left = new Map(figures.filter(figure => !old.has(figure.key)).map(figure => [figure.key, figure]));
         const there = new Set(figures.map(figure => figure.key));
+        for (const key of there) this.#renamed.delete(key);  // as where a conflict came, and was settled
         for (const figure of this.figures.filter(({key}) => !there.has(key))) {
             const one = this.#becomes(figure, [...left.values()]);
             if (!one) continue;
