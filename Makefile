@@ -1,6 +1,6 @@
 # Installs figgroup, without a proof: bin/ has the proved program.
 #
-#   make install [PREFIX=/usr/local] [DESTDIR=]   the program, draw, and what draw uses
+#   make install [PREFIX=/usr/local] [DESTDIR=]   the program, draw, the page, and what draw uses
 #   make deb [TO=.]                               a Debian package of these, figgroup_VERSION_amd64.deb
 
 PREFIX ?= /usr/local
@@ -13,9 +13,11 @@ version = $(shell bin/figgroup --version | cut -d ' ' -f 2)+$(shell git log -1 -
 
 install:
 	./prove --check
-	install -d $(at)/bin $(at)/share/figgroup $(at)/share/doc/figgroup
+	install -d $(at)/bin $(at)/share/figgroup/page/web $(at)/share/doc/figgroup
 	install bin/figgroup bin/draw $(at)/bin
 	install -m 644 share/figgroup/* $(at)/share/figgroup
+	install -m 644 page/*.py $(at)/share/figgroup/page
+	install -m 644 page/web/* $(at)/share/figgroup/page/web
 	install -m 644 README.md bin/figgroup.sum docs/*.md $(at)/share/doc/figgroup
 
 define control
@@ -24,7 +26,7 @@ Version: $(version)
 Architecture: amd64
 Maintainer: the figgroup project <figgroup@localhost>
 Depends: libc6 (>= 2.34)
-Recommends: xfig, jq, git, netpbm
+Recommends: xfig, jq, git, netpbm, python3-tornado
 Suggests: fig2dev
 Section: graphics
 Priority: optional

@@ -213,13 +213,20 @@ def keep_known(folder, names):
     return {site: known[site][0] for site in names}
 
 
+class Words(argparse.ArgumentParser):
+    def error(self, message):
+        print(f'draw: {message}', file=sys.stderr)
+        sys.exit(2)
+
+
 def read_words():
-    words = argparse.ArgumentParser(prog='draw page', description='Lets designers draw the drawing of a folder in the browser.')
-    words.add_argument('folder', type=pathlib.Path)
+    words = Words(prog='draw page', usage='draw page SITE=NAME.. [--port N] [--listen ADDRESS] [--host NAME:PORT]',
+                  description='Lets designers draw in the browser, each by an address of their own.')
+    words.add_argument('folder', type=pathlib.Path, help='`draw page` takes the one where it is typed')
     words.add_argument('designers', nargs='*', metavar='SITE=NAME', help='those of the last time, where none is told')
-    words.add_argument('--port', type=int, default=8140)
+    words.add_argument('--port', type=int, default=8140, help='8140, unless told')
     words.add_argument('--listen', default='127.0.0.1', metavar='ADDRESS', help='0.0.0.0 lets the network in, unencrypted')
-    words.add_argument('--host', action='append', default=[], metavar='NAME:PORT', help='a further name by which pages call')
+    words.add_argument('--host', action='append', default=[], metavar='NAME:PORT', help='a name by which pages call')
     told = words.parse_args()
     told.names = {}
     for designer in told.designers:

@@ -20,4 +20,6 @@ cd "$folder/day"
 figgroup fig < "$root/examples/red-box/input.jsonl" | cmp - "$root/examples/red-box/expected.fig"
 draw site 3 
 FIG_EDITOR="cp '$root/examples/draw/saved/first-figure.fig'" draw 2>&1 | grep -q '^figgroup: made 3.1'
+# The page is found, and says what it lacks: designers, or python3-tornado.
+draw page 2>&1 | grep -q 'who draws\|python3-tornado'
 echo "package: draws"

@@ -188,6 +188,28 @@ say "draw delete 1.1"
 echo 12 > site
 say "draw delete 1.1"
 
+heading "a new drawing from today's picture"
+begin anew
+say "draw anew"
+say "draw anew new"
+say "ls new"
+say "cat site-*.jsonl | figgroup fig > today.fig"
+say "figgroup fig < new/site-1.jsonl | cmp - today.fig"
+say "draw anew new"
+say "cd new && draw site 1"
+
+heading "a page"
+mkdir "$folder/page"
+cd "$folder/page"
+mkdir without
+echo "raise ImportError" > without/tornado.py
+say "draw page Ann"
+say "draw page 9=Ann"
+say "draw page 1="
+say "draw page 1=Ann --listen"
+say "PYTHONPATH=without draw page 1=Ann 2=Ben"
+say "ls"
+
 heading "two in git"
 mkdir "$folder/git"
 cd "$folder/git"

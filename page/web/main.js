@@ -13,7 +13,7 @@ const find = selector => document.querySelector(selector);
 
 export const store = new Store(), drawing = new Drawing(), live = new Live(drawing, store);
 export const canvas = new Canvas(find('#canvas'), drawing, live), gestures = new Gestures(canvas);
-const panels = new Panels(drawing, live, canvas, gestures), objects = new Objects(find('#objects'), drawing, canvas);
+const panels = new Panels(drawing, live, canvas, gestures), objects = new Objects(find('#objects'), drawing, canvas, live);
 const words = actions({drawing, canvas, gestures, ask: what => panels.ask(what)});
 const KEYS = Object.fromEntries(WORDS.flatMap(([word, keys]) => keys.map(key => [key, word])));
 const TOOL_KEYS = Object.fromEntries(TOOLS.flatMap(([tool, keys]) => keys.map(key => [key, tool])));

@@ -4,6 +4,7 @@ import {versions} from './versions.js';
 
 export const EDGES = {nw: [0, 1], n: [1], ne: [2, 1], e: [2], se: [2, 3], s: [3], sw: [0, 3], w: [0]};
 const PAD = 7;  // pixels between a figure and its handles
+const ABOVE = 24;  // pixels between a figure and its badge
 const coarse = matchMedia('(pointer: coarse)');
 const sizes = () => coarse.matches ? {edge: 16, corner: 10, between: 7} : {edge: 8, corner: 5, between: 3};
 
@@ -42,7 +43,7 @@ function waiting(drawing, live) {
 
 function badge(figure, {name, colour}, unit) {
     const [left, top, right] = bounds(figure);
-    const place = `translate(${(left + right) / 2} ${top - 16 * unit}) scale(${unit})`;
+    const place = `translate(${(left + right) / 2} ${top - ABOVE * unit}) scale(${unit})`;
     return svg('g', {transform: place, class: 'badge'},
         svg('circle', {r: 9, style: `fill: ${colour}`}), svg('text', {y: 4}, name.slice(0, 1).toUpperCase()));
 }
@@ -50,7 +51,7 @@ function badge(figure, {name, colour}, unit) {
 // Who has selected it.
 function tag(figure, name, colour, unit) {
     const [left, top] = bounds(figure), wide = 6.6 * name.length + 12;
-    return svg('g', {transform: `translate(${left} ${top - 20 * unit}) scale(${unit})`, class: 'tag'},
+    return svg('g', {transform: `translate(${left} ${top - (ABOVE + 8) * unit}) scale(${unit})`, class: 'tag'},
         svg('rect', {width: wide, height: 17, rx: 4, style: `fill: ${colour}`}),
         svg('text', {x: wide / 2, y: 12.5}, name));
 }

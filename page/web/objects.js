@@ -1,5 +1,7 @@
 // The list of objects, for the keyboard and for who hears the page: the topmost first, each an option in words.
+import {apart} from './fig.js';
 import {inWords} from './figure.js';
+import {whose} from './versions.js';
 
 export class Objects {
     #options = new Map();  // by key: the element, and the figure that it tells
@@ -7,8 +9,8 @@ export class Objects {
     #due = null;
     #count = 0;
 
-    constructor(root, drawing, canvas) {
-        Object.assign(this, {root, drawing, canvas});
+    constructor(root, drawing, canvas, live) {
+        Object.assign(this, {root, drawing, canvas, live});
         drawing.addEventListener('shown', () => this.#later());
         root.addEventListener('keydown', event => this.#key(event));
         root.addEventListener('click', event => this.#click(event));
@@ -49,7 +51,8 @@ export class Objects {
     }
 
     #tell(option, figure) {
-        const name = `${figure.kind} ${figure.object ?? ''}`.trim();
+        const [first] = apart(figure), version = first ? `, ${whose(figure, this.live.designer(first.split('.')[0]), this.live)}` : '';
+        const name = `${figure.kind} ${figure.object ?? ''}`.trim() + version;
         option.figure = figure;
         option.swatch.style.background = figure.colour;
         option.name.textContent = name;
