@@ -27,6 +27,7 @@ import argparse
 import asyncio
 import fcntl
 import hmac
+import ipaddress
 import json
 import pathlib
 import re
@@ -51,6 +52,7 @@ MOST_BYTES = 16 * 1024 * 1024  # of a message; figgroup reads as much
 MOST_PAGES = 64
 MOST_MESSAGES = 100  # at once from one page,
 PACE = 25  # and in a second
+PATIENCE = 5  # seconds, for a server that was just killed
 MOST_HELD = 100  # objects of which the others see that they are selected
 OBJECT = re.compile(r'[1-8]\.[1-9][0-9]{0,4}')
 PAGE = re.compile(r'[A-Za-z0-9_-]{1,40}')
@@ -228,6 +230,10 @@ def read_words():
     words.add_argument('--listen', default='127.0.0.1', metavar='ADDRESS', help='0.0.0.0 lets the network in, unencrypted')
     words.add_argument('--host', action='append', default=[], metavar='NAME:PORT', help='a name by which pages call')
     told = words.parse_args()
+    try:
+        ipaddress.ip_address(told.listen.replace('localhost', '127.0.0.1'))
+    except ValueError:
+        words.error(f'an address has numbers, as 0.0.0.0, and is not {told.listen}')
     told.names = {}
     for designer in told.designers:
         site, _, name = designer.partition('=')
@@ -241,20 +247,24 @@ def read_words():
 
 
 def hold(folder):
-    """One server for each folder."""
-    lock = open(folder / 'drawing.lock', 'w')
-    try:
-        fcntl.flock(lock, fcntl.LOCK_EX | fcntl.LOCK_NB)
-    except BlockingIOError:
-        sys.exit('draw: another server is at work in this folder')
-    return lock
+    """One server for each folder. Of one that was killed a process that it was just beginning may have the lock still."""
+    lock, end = open(folder / 'drawing.lock', 'w'), time.monotonic() + PATIENCE
+    while True:
+        try:
+            fcntl.flock(lock, fcntl.LOCK_EX | fcntl.LOCK_NB)
+            return lock
+        except BlockingIOError:
+            if time.monotonic() > end:
+                sys.exit('draw: another server is at work in this folder')
+            time.sleep(0.05)
 
 
 def say_where(told, known):
-    name = told.host[0] if told.host else f'127.0.0.1:{told.port}'
+    here = '127.0.0.1' if told.listen in ('0.0.0.0', '::') else told.listen
+    name = told.host[0] if told.host else f'{here}:{told.port}'
     for site, designer in told.names.items():
         print(f'{designer} draws at http://{name}/{known[site]}/', flush=True)
-    if told.listen not in ('127.0.0.1', 'localhost', '::1'):
+    if told.listen != 'localhost' and not ipaddress.ip_address(told.listen).is_loopback:
         print(f'draw: {told.listen} is not encrypted: who sees the network can read and draw. '
               'Elsewhere than at home use ssh -L, or a server with TLS before it.', file=sys.stderr, flush=True)
 

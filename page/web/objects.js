@@ -69,7 +69,13 @@ export class Objects {
         if (!option) return;
         this.root.setAttribute('aria-activedescendant', option.node.id);
         for (const {node} of this.#options.values()) node.classList.toggle('active', node === option.node);
-        option.node.scrollIntoView({block: 'nearest'});
+        this.#reveal(option.node);
+    }
+
+    // Scrolls the list, and not what is around it.
+    #reveal({offsetTop, offsetHeight}) {
+        const {root} = this, least = offsetTop + offsetHeight - root.clientHeight;
+        root.scrollTop = Math.max(least, Math.min(offsetTop, root.scrollTop));
     }
 
     #go(key, selected = [key]) {
