@@ -259,8 +259,13 @@ def hold(folder):
             time.sleep(0.05)
 
 
+def bracketed(address):
+    """An address as it stands before a port."""
+    return f'[{address}]' if ':' in address else address
+
+
 def say_where(told, known):
-    here = '127.0.0.1' if told.listen in ('0.0.0.0', '::') else told.listen
+    here = '127.0.0.1' if told.listen in ('0.0.0.0', '::') else bracketed(told.listen)
     name = told.host[0] if told.host else f'{here}:{told.port}'
     for site, designer in told.names.items():
         print(f'{designer} draws at http://{name}/{known[site]}/', flush=True)
@@ -275,7 +280,7 @@ async def main():
     known = keep_known(told.folder, told.names)
     hosts = {f'127.0.0.1:{told.port}', f'localhost:{told.port}', *told.host}
     if told.listen not in ('0.0.0.0', '::'):
-        hosts.add(f'{told.listen}:{told.port}')
+        hosts.add(f'{bracketed(told.listen)}:{told.port}')
     drawing = Drawing(told.folder, told.names)
     application = tornado.web.Application(
         [(r'/[^/]+/live', Page), (r'/[^/]+/([a-z.]*)', PageFile)], drawing=drawing, secrets=known, hosts=hosts,
