@@ -13,13 +13,15 @@ they are added to the file of the site. A page and the server exchange JSON over
             {"holds": [OBJECTS]}           what is selected, for the others to see
     server  {"you": SITE}
             {"draws": BOOL, "turn": T, "last": L}    whether this page is the one of its site that draws
+        to each request one answer, with its "request":
             {"taken": L, "made": LINES, "said": WORDS}    what was sent is on the disk
             {"refused": WORDS}             nothing was made of it, and why
             {"behind": L}                  nothing was made of it, as the site has operations that the page did not know
             {"watching": WORDS}            nothing was made of it, as another page of the site draws
             {"again": WORDS}               the disk failed: the same is to be sent again
-            {"drawing": TEXT, "status": LINES} or {"fault": WORDS}    to all pages, whenever something changed
-            {"designers": [{site, name, pages, holds}]}      the same
+        to all pages, whenever something changed:
+            {"drawing": TEXT, "status": LINES} or {"fault": WORDS}
+            {"designers": [{site, name, pages, holds}]}
 
 It needs python3-tornado, and the program figgroup (FIGGROUP names it, or it is on the PATH).
 """
@@ -161,24 +163,26 @@ class Page(Guarded, tornado.websocket.WebSocketHandler):
     async def make(self, asked):
         """What a page asked for, made or not."""
         page, number = str(asked['request']).rsplit('.', 1)
-        after = int(asked['after'])
         if not PAGE.fullmatch(page):
             raise ValueError('no such request')
-        request = (page, int(number))
         try:
-            if 'take' in asked:
-                return await self.drawing.take(self, request, after, str(asked['take']))
-            if not OBJECT.fullmatch(asked['show']):
-                raise ValueError('no such object')
-            return await self.drawing.show(self, request, after, asked['show'], asked['to'] is True)
+            answer = await self.made(asked, (page, int(number)), int(asked['after']))
         except Behind as behind:
-            return {'behind': behind.args[0]}
+            answer = {'behind': behind.args[0]}
         except Watching:
-            return {'watching': 'another page of yours draws'}
+            answer = {'watching': 'another page of yours draws'}
         except Refusal as refusal:
-            return {'refused': str(refusal)}
+            answer = {'refused': str(refusal)}
         except OSError as error:
-            return {'again': f'the disk failed: {error.strerror}'}
+            answer = {'again': f'the disk failed: {error.strerror}'}
+        return {**answer, 'request': asked['request']}
+
+    async def made(self, asked, request, after):
+        if 'take' in asked:
+            return await self.drawing.take(self, request, after, str(asked['take']))
+        if not OBJECT.fullmatch(asked['show']):
+            raise ValueError('no such object')
+        return await self.drawing.show(self, request, after, asked['show'], asked['to'] is True)
 
     def tell(self, what, message=None):
         """Sends it when the page has read what came before; meanwhile a newer drawing takes the place of an older one."""

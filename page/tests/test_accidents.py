@@ -79,6 +79,47 @@ class Accidents(PageTest):
         self.made(2)
 
 
+class Names(PageTest):
+    """Which figure became which object."""
+
+    def test_a_take_gives_an_object_to_another_figure(self):
+        """One is drawn, and before its text is shown it is moved and another one drawn, in one text: the take may move
+        the first to the place of the second, and create the first anew."""
+        page = self.page()
+        page.module('''return import(location.href + 'figure.js').then(({fresh}) => {
+            live.busy = true;  // so that no text is shown
+            window.first = fresh('box', [0, 0, 500, 500], '#2e7d32');
+            window.second = fresh('box', [3000, 0, 500, 500], '#2e7d32');
+            drawing.change([first]);
+        })''')
+        self.made(1)
+        wait(lambda: page.module('return live.last === 1'))
+        self.server.kill()
+        page.wait_for('offline')
+        page.module('''return import(location.href + 'figure.js').then(({moved}) => {
+            drawing.change([moved(first, 0, 5000)]);
+            drawing.change([moved(first, 0, 5000), second]);
+        })''')
+        self.server.start()
+        self.made(3)
+        wait(lambda: page.module('return live.last === 3'))
+        page.module('live.rest()')
+        page.wait_for('saved')
+        wait(lambda: all('new' not in key for key in page.module('return drawing.figures.map(({key}) => key)')))
+        shapes = page.module('''return [first, second].map(({key}) =>
+            drawing.figures.find(figure => figure.key === drawing.find(key)).shape.slice(0, 2))''')
+        self.assertEqual([[0, 5000], [3000, 0]], shapes)
+
+    def test_a_conflict_that_came_and_was_settled(self):
+        """A name leads to another one and back: the search for it ends."""
+        page = self.page()
+        ends = page.module('''
+            const one = key => ({key, object: '1.1', at: 60, named: [], kind: 'box', shape: [0, 0, 9, 9], colour: '#ffffff'});
+            for (const keys of [['1.1'], ['1.1 1.2', '1.1 2.1'], ['1.1'], ['1.1 1.3', '1.1 2.2'], ['1.1']]) drawing.adopt(keys.map(one));
+            return ['1.1', '1.1 1.2', '1.1 1.3'].map(drawing.find)''')
+        self.assertEqual(['1.1'] * 3, ends)
+
+
 class Beside(PageTest):
     """draw and the real xfig in the same folder."""
 

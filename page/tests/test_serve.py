@@ -63,7 +63,7 @@ class Requests(ServeTest):
         """What does not know the site's last operation would undo it, and is not made."""
         client = await self.client()
         await client.take(drawing(box(0)))
-        self.assertEqual({'behind': 1}, await client.take(drawing(box(900))))
+        self.assertEqual(1, (await client.take(drawing(box(900))))['behind'])
         self.assertEqual(1, len(self.server.operations()))
 
     async def test_refused(self):

@@ -83,11 +83,16 @@ function object({kind, shape}, colour, depth) {
     return [`2 ${type} ${paint} 0 0 -1 0 0 ${points.length / 2 + 1}`, `\t ${[...points, points[0], points[1]].join(' ')}`];
 }
 
-// The figures that operation lines create, each with the name of its object.
+// What operation lines create, as it is when all are made: figures without a key, each with the name of its object.
 export function created(lines) {
-    return lines.split('\n').filter(Boolean).map(line => JSON.parse(line)).filter(({op}) => op === 'create').map(
-        ({id, kind, place, size, points, colour}) => ({
-            object: id.join('.'), kind, colour: `#${colour}`,
-            shape: kind === 'polygon' ? points.flatMap(([x, y]) => [x + place[0], y + place[1]]) : [...place, ...size],
-        }));
+    const objects = new Map();
+    for (const line of lines.split('\n').filter(Boolean)) {
+        const {op, id, object, set, to, ...values} = JSON.parse(line);
+        if (op === 'create') objects.set(id.join('.'), values);
+        else if (objects.has(object.join('.'))) objects.get(object.join('.'))[set] = to;
+    }
+    return [...objects].filter(([, {shown}]) => shown).map(([object, {kind, place, size, points, colour}]) => ({
+        object, kind, colour: `#${colour}`,
+        shape: kind === 'polygon' ? points.flatMap(([x, y]) => [x + place[0], y + place[1]]) : [...place, ...size],
+    }));
 }

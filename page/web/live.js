@@ -30,6 +30,7 @@ export class Live extends EventTarget {
     busy = false;         // a gesture is under way
     #base = null;
     #acked = [];          // the figures that were answered last
+    #made = '';           // the operations of which the base does not know that they were made here
     #sent = null;         // the request that is not answered yet
     #wanted = null;       // an object that is to be shown or hidden next
     #unsent = false;      // there were gestures since
@@ -149,12 +150,16 @@ export class Live extends EventTarget {
         }
         if (said.fault || said.drawing) this.fault = said.fault ?? '';
         if (said.draws !== undefined) this.#turns(said);
+        if (!said.request || said.request === this.#sent?.request) this.#hearAnswer(said);
+        this.#step();
+    }
+
+    #hearAnswer(said) {
         if (said.taken !== undefined) this.#answered(said);
         if (said.refused) this.#refuse(said.refused);
         if (said.behind !== undefined) this.#behind(said.behind);
         if (said.watching) this.#lose();
         if (said.again) setTimeout(() => this.#post(), AGAIN);
-        this.#step();
     }
 
     // It is told who draws: when this page comes, and when another one takes over.
@@ -224,6 +229,7 @@ export class Live extends EventTarget {
         this.last = known(newest, this.site);
         const news = this.drawing.adopt(newest.figures);
         this.#acked = this.drawing.figures;
+        this.#made = '';
         if (!first && news) this.dispatchEvent(new CustomEvent('news', {detail: news}));
     }
 
@@ -238,10 +244,18 @@ export class Live extends EventTarget {
         if (show) this.#stale = made !== '';
         if (!figures) return;
         this.#acked = figures;
-        const left = figures.filter(({key, object}) => !object && !this.drawing.names.has(key));
-        for (const one of created(made)) {
+        this.#made += made;
+        this.#name();
+    }
+
+    // Finds which object each figure became that was drawn here. An answered text shows all of these as they are, and a
+    // take may give an object to another figure than the one before it did, so all are found anew.
+    #name() {
+        const {names} = this.drawing, left = this.#acked.filter(({object}) => !object);
+        names.clear();
+        for (const one of created(this.#made)) {
             const place = left.findIndex(figure => sameLook(figure, one));
-            if (place >= 0) this.drawing.names.set(left.splice(place, 1)[0].key, one.object);
+            if (place >= 0) names.set(left.splice(place, 1)[0].key, one.object);
         }
     }
 
@@ -306,13 +320,13 @@ export class Live extends EventTarget {
         this.#kept = now;
         this.store.keep({
             base: this.#base.text, last: this.last, sent: sent && {...sent, figures: sent.figures === figures ? null : sent.figures},
-            acked: this.#acked === shown ? null : this.#acked, now: figures, unsent: this.#unsent,
+            acked: this.#acked === shown ? null : this.#acked, made: this.#made, now: figures, unsent: this.#unsent,
             asked: this.asked?.changes, status: this.status,
         });
     }
 
     // Goes on with what a closed page left.
-    #recall({base, last, sent, acked, now, unsent, asked, status}) {
+    #recall({base, last, sent, acked, made, now, unsent, asked, status}) {
         this.#base = read(base);
         this.last = last;
         this.status = status;
@@ -320,6 +334,8 @@ export class Live extends EventTarget {
         this.#sent = sent && {...sent, figures: sent.figures ?? now};
         this.#unsent = unsent;
         this.asked = asked ? {changes: asked, anew: false} : null;
+        this.#made = made;
+        this.#name();
         this.drawing.leave(now);
     }
 
