@@ -55,6 +55,7 @@ MOST_PAGES = 64
 MOST_MESSAGES = 100  # at once from one page,
 PACE = 25  # and in a second
 PATIENCE = 5  # seconds, for a server that was just killed
+MOST_TURN = 2 ** 50  # so that a page's numbers hold it
 MOST_HELD = 100  # objects of which the others see that they are selected
 OBJECT = re.compile(r'[1-8]\.[1-9][0-9]{0,4}')
 PAGE = re.compile(r'[A-Za-z0-9_-]{1,40}')
@@ -155,7 +156,7 @@ class Page(Guarded, tornado.websocket.WebSocketHandler):
 
     def join(self, asked):
         turn = asked['turn']
-        if not PAGE.fullmatch(asked['page']) or not (turn is None or isinstance(turn, int)):
+        if not PAGE.fullmatch(asked['page']) or not (turn is None or isinstance(turn, int) and 0 < turn < MOST_TURN):
             raise ValueError('no such page')
         self.name = asked['page']
         self.drawing.join(self, turn, asked['draws'] is True)

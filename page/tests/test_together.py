@@ -35,7 +35,7 @@ class Together(PageTest):
         for page in (ann, ben):
             wait(lambda: sorted(page.text('.versions b')) == ["Ann's place", "Ben's place"], what=lambda: page.text('.versions b'))
         self.assertEqual(['A', 'B'], sorted(ben.text('.badge text')))
-        wait(lambda: '1 objects' in ''.join(ben.text('#spoken')), what=lambda: ben.text('#spoken'))
+        wait(lambda: '1 object has versions' in ''.join(ben.text('#spoken')), what=lambda: ben.text('#spoken'))
         shot(ann, 'conflict')
         ann.button_of("Ben's place")
         for page in (ann, ben):

@@ -5,6 +5,7 @@ import {HINTS, TOOLS, WORDS} from './words.js';
 
 const COLOURS = ['#1b1b1f', '#5f6672', '#b8bec9', '#ffffff', '#d64545', '#ef8354', '#f4c95d', '#fff3c4',
     '#2e7d32', '#8bc34a', '#1b998b', '#bfe3d0', '#2d4a8a', '#4f7cac', '#a9d0f5', '#7d5ba6'];
+const MOST_CARDS = 12;          // objects in conflict that are shown at once
 const MOST_OWN = 16;            // colours of the drawing that are offered
 const LIMIT = 10000, FEW = 1000;  // operations of a site; from so few left on it is told
 const STATES = {
@@ -154,14 +155,17 @@ export class Panels {
     // Two designers changed one object at once: each version with a picture, and a click keeps it.
     #conflicts() {
         const {figures} = this.drawing, {live} = this, found = conflicts(figures, live);
-        const names = [...found.keys()], key = names.length ? JSON.stringify([...found.values(), live.designers.length, live.mayDraw]) : '';
-        const seen = key ? key + figures.length : '';
-        put('#conflicts', seen, () => names.length
-            ? [html('h2', {}, 'Choose a version'), ...[...found].map(([object, versions]) => this.#card(object, versions))] : []);
-        const told = names.length ? `${names.length} objects have versions in conflict` : '';
+        const shown = [...found].slice(0, MOST_CARDS), more = found.size - shown.length;
+        const key = found.size ? JSON.stringify([shown, more, live.designers.length, live.mayDraw, figures.length]) : '';
+        put('#conflicts', key, () => found.size ? [
+            html('h2', {}, 'Choose a version'),
+            ...shown.map(([object, versions]) => this.#card(object, versions)),
+            ...more ? [html('p', {}, `and ${more} more`)] : [],
+        ] : []);
+        const told = found.size ? `${found.size} ${found.size > 1 ? 'objects have' : 'object has'} versions in conflict` : '';
         if (told && told !== this.#spoken) this.speak(told);
         this.#spoken = told;
-        find('#more').dataset.count = names.length + hidden(live).length || '';
+        find('#more').dataset.count = found.size + hidden(live).length || '';
     }
 
     #card(object, versions) {
