@@ -54,8 +54,8 @@ class Requests(ServeTest):
         self.assertEqual(2, (await other.take(drawing(box(0), box(500)), after=1))['taken'])
         self.server.kill()
         self.server.start()
-        client = await self.client()
-        again = await client.take(text, request='client%d.1' % int(first['made'] is None or Client.made - 2))
+        back = await self.client()
+        again = await back.take(text, request=f'{client.page}.1')
         self.assertEqual((1, first['made']), (again['taken'], again['made']))
         self.assertEqual(2, len(self.server.operations()))
 

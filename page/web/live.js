@@ -223,12 +223,12 @@ export class Live extends EventTarget {
         const newest = this.#newest;
         if (!newest || this.busy || known(newest, this.site) < this.last) return;
         const first = !this.#base;
+        const news = this.drawing.adopt(newest.figures);
         this.#newest = null;
-        this.#base = newest;
+        this.#acked = this.drawing.figures;
+        this.#base = {...newest, figures: this.#acked};
         this.#stale = false;
         this.last = known(newest, this.site);
-        const news = this.drawing.adopt(newest.figures);
-        this.#acked = this.drawing.figures;
         this.#made = '';
         if (!first && news) this.dispatchEvent(new CustomEvent('news', {detail: news}));
     }
@@ -319,9 +319,9 @@ export class Live extends EventTarget {
         if (now.every((part, i) => part === this.#kept[i])) return;
         this.#kept = now;
         this.store.keep({
-            base: this.#base.text, last: this.last, sent: sent && {...sent, figures: sent.figures === figures ? null : sent.figures},
-            acked: this.#acked === shown ? null : this.#acked, made: this.#made, now: figures, unsent: this.#unsent,
-            asked: this.asked?.changes, status: this.status,
+            base: this.#base.text, acked: this.#acked === shown ? null : this.#acked, made: this.#made, last: this.last,
+            sent: sent && {...sent, figures: sent.figures === figures ? null : sent.figures}, now: figures,
+            unsent: this.#unsent, asked: this.asked?.changes, status: this.status,
         });
     }
 

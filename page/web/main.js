@@ -24,6 +24,7 @@ function act(word) {
     words[word]();
 }
 
+document.addEventListener('pointerdown', () => gestures.endNudge(), true);
 document.addEventListener('click', ({target}) => {
     const button = target.closest('button');
     if (button?.dataset.do) act(button.dataset.do);
@@ -38,7 +39,7 @@ function named({key, ctrlKey, metaKey, shiftKey}) {
 document.addEventListener('keydown', event => {
     const {target} = event, name = named(event), bare = name.replace(/^Ctrl\+/, '');
     if (target.matches('input:not([type=checkbox])') || find('dialog[open]')) return;
-    if (target.closest('button, summary') && (bare === ' ' || bare === 'Enter')) return;
+    if (target.closest('button, input') && (bare === ' ' || bare === 'Enter')) return;
     if (bare === ' ') gestures.panning = true;
     else if (KEYS[name]) act(KEYS[name]);
     else if (TOOL_KEYS[name]) gestures.use(TOOL_KEYS[name]);
@@ -81,9 +82,9 @@ drawing.addEventListener('shown', () => due ??= setTimeout(() => {
 }, HOLD));
 
 // The first drawing that comes is shown whole.
-drawing.addEventListener('shown', function first() {
-    if (!live.mayDraw && !live.status) return;
-    drawing.removeEventListener('shown', first);
+live.addEventListener('told', function first() {
+    if (live.state === 'offline') return;
+    live.removeEventListener('told', first);
     canvas.fit();
 });
 

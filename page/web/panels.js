@@ -254,6 +254,7 @@ export class Panels {
         find('[data-do=redo]').disabled = off || !drawing.undone.length;
         find('#scale').textContent = `${Math.round(1500 / canvas.view.unit)} %`;  // xfig has 15 units a pixel
         find('#snap').checked = canvas.snap;
+        find('#hint').hidden = drawing.figures.length > 0 || canvas.tool !== 'select' || off;
         find('#done').hidden = gestures.corners < 3;
         find('#count').textContent = String(drawing.figures.length);
     }
