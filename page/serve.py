@@ -214,10 +214,11 @@ def read_known(folder):
 def keep_known(folder, names):
     """Those of the sites that are served, of which the new ones get a secret. git leaves out drawing.*, as `draw` says."""
     old = read_known(folder)
-    known = {**old, **{site: (old[site][0] if site in old else secrets.token_urlsafe(16), name) for site, name in names.items()}}
+    secret = {site: old[site][0] if site in old else secrets.token_urlsafe(16) for site in names}
+    known = {**old, **{site: (secret[site], name) for site, name in names.items()}}
     if known != old:
         write_whole(folder / 'drawing.secrets', json.dumps({str(site): both for site, both in known.items()}).encode())
-    return {site: known[site][0] for site in names}
+    return secret
 
 
 class Words(argparse.ArgumentParser):

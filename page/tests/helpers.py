@@ -15,6 +15,7 @@ from selenium.webdriver.chrome.service import Service
 from selenium.webdriver.common.action_chains import ActionChains
 from selenium.webdriver.common.actions.action_builder import ActionBuilder
 from selenium.webdriver.common.actions.pointer_input import PointerInput
+from selenium.webdriver.common.actions.wheel_input import ScrollOrigin
 from selenium.webdriver.common.by import By
 from selenium.webdriver.common.keys import Keys
 
@@ -151,11 +152,14 @@ class Page:
     def pixel(self, x, y):
         return [round(value) for value in self.module('return canvas.pixel(given)', x, y)]
 
-    def drag(self, *points, steps=3, hold=False):
+    def drag(self, *points, **more):
         """A drag of the left button through points, which are told in units of the drawing."""
-        self.drag_pixels(*[self.pixel(*point) for point in points], steps=steps, hold=hold)
+        self.drag_pixels(*[self.pixel(*point) for point in points], **more)
 
-    def drag_pixels(self, *pixels, steps=3, hold=False):
+    def drag_pixels(self, *pixels, steps=3, hold=False, key=None):
+        """The same in pixels. The button stays down where `hold` is true; `key` is down meanwhile."""
+        if key:
+            ActionChains(self.here()).key_down(key).perform()
         actions = ActionBuilder(self.here(), duration=10)
         actions.pointer_action.move_to_location(*pixels[0])
         actions.pointer_action.pointer_down()
@@ -165,6 +169,19 @@ class Page:
         if not hold:
             actions.pointer_action.pointer_up()
         actions.perform()
+        if key:
+            ActionChains(self.driver).key_up(key).perform()
+
+    def scroll(self, x, y, dx, dy, key=None):
+        """Turns the wheel over a point of the drawing."""
+        x, y = self.pixel(x, y)
+        chain = ActionChains(self.here())
+        if key:
+            chain.key_down(key)
+        chain.scroll_from_origin(ScrollOrigin.from_viewport(x, y), dx, dy)
+        if key:
+            chain.key_up(key)
+        chain.perform()
 
     def release(self):
         actions = ActionBuilder(self.here(), duration=0)

@@ -61,6 +61,18 @@ class Accidents(PageTest):
         wait(lambda: len(page.figures) == 8)
         self.assertEqual('', self.server.figgroup('check'))
 
+    def test_a_dead_connection(self):
+        """What was said into a dead connection is said again by the next one, as soon as the network is known to be gone."""
+        page = self.page()
+        page.mute()
+        page.draw('r', (0, 0), (1000, 1000))
+        page.wait_for('sending')
+        page.mute(False)
+        page.js('window.dispatchEvent(new Event("offline"))')
+        page.wait_for('saved')
+        self.made(1)
+        page.wait_figures([f'rect {FIRST} 0 0 1000 1000'])
+
     def test_disk_lost_lines(self):
         """Where a file loses operations nothing is added to it, and the page says so."""
         page = self.page()

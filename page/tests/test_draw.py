@@ -137,10 +137,16 @@ class Gestures(PageTest):
         self.assertLess(unit, 8)
         page.press('-')
         self.assertAlmostEqual(1.25 * unit, page.module('return canvas.view.unit'), places=5)
-        x, y = page.pixel(0, 0)
-        page.press(' ')  # without a drag the space bar does nothing
-        page.drag_pixels([x + 9, y + 9], [x + 60, y + 80])
-        self.assertEqual('place', self.made(2)[-1]['set'])
+        page.keep_view()
+        page.drag((500, 500), (1300, 2100), key=' ')
+        self.assertEqual([-1200, -2000, 8], page.module('return [canvas.view.x, canvas.view.y, canvas.view.unit]'))
+        page.keep_view()
+        page.scroll(0, 0, 50, 100)
+        self.assertEqual([0, 400, 8], page.module('return [canvas.view.x, canvas.view.y, canvas.view.unit]'))
+        page.keep_view()
+        page.scroll(500, 500, 0, -100, key=Keys.CONTROL)
+        self.assertLess(page.module('return canvas.view.unit'), 7)
+        self.assertEqual(1, len(self.server.operations()))
 
     def test_grid(self):
         """Points keep to the grid unless it is put off."""

@@ -14,6 +14,7 @@ import {difference, redo} from './drawing.js';
 import {sameLook} from './figure.js';
 
 const SOON = 250, LATE = 4000, AGAIN = 2000;  // milliseconds
+const SILENT = 90000;  // until a connection without an answer counts as dead; a run of figgroup may take 30,000
 
 export class Live extends EventTarget {
     state = 'offline';    // or: saved, sending, refused, watching, asked
@@ -25,6 +26,7 @@ export class Live extends EventTarget {
     status = '';
     faults = new Map();   // of a refused drawing: what is wrong with which figure
     words = '';           // what the server said last
+    reason = '';          // why it ended the connection
     fault = '';           // why there is no newer drawing
     last = 0;             // the last operation of the site that this page knows
     busy = false;         // a gesture is under way
@@ -41,6 +43,7 @@ export class Live extends EventTarget {
     #newest = null;
     #socket = null;
     #holds = [];
+    #silent = null;
     #kept = [];           // what the browser's store has
 
     constructor(drawing, store) {
@@ -58,6 +61,7 @@ export class Live extends EventTarget {
     async begin() {
         const record = await this.store.find();
         if (record) this.#recall(record);
+        addEventListener('offline', () => this.#hangUp());
         this.#call();
     }
 
@@ -123,17 +127,26 @@ export class Live extends EventTarget {
 
     #call(wait = SOON) {
         const socket = this.#socket = new WebSocket(new URL('live', location.href.replace(/^http/, 'ws')));
-        socket.onmessage = ({data}) => this.#hear(JSON.parse(data));
+        socket.onmessage = ({data}) => socket === this.#socket && this.#hear(JSON.parse(data));
         socket.onopen = () => {
             wait = SOON;
             this.#say({page: this.store.page, turn: this.#turn, draws: this.draws});
         };
-        socket.onclose = ({code, reason}) => {
+        socket.onclose = ({reason}) => {
+            if (socket !== this.#socket) return;
+            this.#socket = null;
             this.joined = false;
-            this.words = code === 1013 ? reason : this.words;
+            this.reason = reason;
             this.#step();
             setTimeout(() => this.#call(Math.min(2 * wait, LATE)), wait);
         };
+    }
+
+    // Gives up a connection that may be dead, without waiting for its end, and calls again.
+    #hangUp() {
+        const socket = this.#socket;
+        socket?.onclose({reason: ''});
+        socket?.close();
     }
 
     // Says something to the server now, if it is there.
@@ -155,6 +168,7 @@ export class Live extends EventTarget {
     }
 
     #hearAnswer(said) {
+        if (said.request) clearTimeout(this.#silent);
         if (said.taken !== undefined) this.#answered(said);
         if (said.refused) this.#refuse(said.refused);
         if (said.behind !== undefined) this.#behind(said.behind);
@@ -215,6 +229,8 @@ export class Live extends EventTarget {
     #post() {
         if (!this.#sent || !this.joined) return;
         const {request, after, figures, show, to} = this.#sent;
+        clearTimeout(this.#silent);
+        this.#silent = setTimeout(() => this.#hangUp(), SILENT);
         this.#say(show ? {show, to, request, after} : {take: write(figures, this.#base.knows).text, request, after});
     }
 

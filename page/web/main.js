@@ -39,6 +39,7 @@ function named({key, ctrlKey, metaKey, shiftKey}) {
 document.addEventListener('keydown', event => {
     const {target} = event, name = named(event), bare = name.replace(/^Ctrl\+/, '');
     if (target.matches('input:not([type=checkbox])') || find('dialog[open]')) return;
+    if (name === 'Ctrl+c' && String(getSelection())) return;  // words that are to be copied
     if (target.closest('button, input') && (bare === ' ' || bare === 'Enter')) return;
     if (bare === ' ') gestures.panning = true;
     else if (KEYS[name]) act(KEYS[name]);

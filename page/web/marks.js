@@ -17,7 +17,8 @@ export function marks(canvas) {
         if (site === live.site || !holds.length) continue;
         const held = new Set(holds), {name, colour} = live.designer(site);
         const ones = figures.filter(({object}) => held.has(object));
-        all.push(...ones.map(figure => outline(figure, 'held', colour)), ...ones.slice(0, 1).map(one => tag(one, name, colour, unit)));
+        all.push(...ones.map(figure => outline(figure, 'held', colour)));
+        if (ones.length) all.push(tag(ones[0], name, colour, unit));
     }
     for (const figure of figures) if (live.faults.has(figure.key)) all.push(outline(figure, 'fault'));
     all.push(...waiting(drawing, live));
@@ -35,8 +36,9 @@ function waiting(drawing, live) {
     if (!live.asked) return [];
     const before = new Map(drawing.figures.map(figure => [figure.key, figure])), after = live.waiting();
     const there = new Set(after.map(({key}) => key));
+    const changes = one => !before.has(one.key) || !sameLook(before.get(one.key), one);
     return [
-        ...after.filter(one => !before.has(one.key) || !sameLook(before.get(one.key), one)).map(one => outline(one, 'waits')),
+        ...after.filter(changes).map(one => outline(one, 'waits')),
         ...drawing.figures.filter(({key}) => !there.has(key)).map(one => outline(one, 'waits gone')),
     ];
 }
@@ -57,7 +59,7 @@ function tag(figure, name, colour, unit) {
 }
 
 function handles(chosen, unit) {
-    const [left, top, right, bottom] = join(chosen.map(bounds)), pad = PAD * unit, {edge: wide} = sizes(), size = wide * unit;
+    const [left, top, right, bottom] = join(chosen.map(bounds)), pad = PAD * unit, size = sizes().edge * unit;
     const box = [left - pad, top - pad, right + pad, bottom + pad];
     const frame = svg('rect', {x: box[0], y: box[1], width: box[2] - box[0], height: box[3] - box[1], class: 'frame'});
     const edges = Object.entries(EDGES).map(([edge, sides]) => {
@@ -77,7 +79,9 @@ function corners({shape}, unit) {
         const [x, y] = [(shape[i] + shape[next]) / 2, (shape[i + 1] + shape[next + 1]) / 2];
         all.push(svg('circle', {cx: x, cy: y, r: between * unit, class: 'handle between', 'data-between': i + 2}));
     }
-    for (let i = 0; i < shape.length; i += 2)
-        all.push(svg('circle', {cx: shape[i], cy: shape[i + 1], r: corner * unit, class: 'handle corner', 'data-corner': i}));
+    for (let i = 0; i < shape.length; i += 2) {
+        const [cx, cy] = shape.slice(i, i + 2);
+        all.push(svg('circle', {cx, cy, r: corner * unit, class: 'handle corner', 'data-corner': i}));
+    }
     return all;
 }

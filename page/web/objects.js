@@ -41,7 +41,7 @@ export class Objects {
     }
 
     #made({key}) {
-        const node = document.createElement('li'), swatch = document.createElement('i'), name = document.createElement('span');
+        const [node, swatch, name] = ['li', 'i', 'span'].map(part => document.createElement(part));
         node.append(swatch, name);
         Object.assign(node, {id: `object-${this.#count++}`, role: 'option'});
         node.dataset.object = key;
@@ -51,7 +51,8 @@ export class Objects {
     }
 
     #tell(option, figure) {
-        const [first] = apart(figure), version = first ? `, ${whose(figure, this.live.designer(first.split('.')[0]), this.live)}` : '';
+        const {live} = this, [first] = apart(figure);
+        const version = first ? `, ${whose(figure, live.designer(first.split('.')[0]), live)}` : '';
         const name = `${figure.kind} ${figure.object ?? ''}`.trim() + version;
         option.figure = figure;
         option.swatch.style.background = figure.colour;
@@ -91,7 +92,8 @@ export class Objects {
             const key = keys[Math.max(0, Math.min(keys.length - 1, next))];
             this.#go(key, event.shiftKey ? [...selected, key] : [key]);
         } else if (event.key === ' ' && this.#active) {
-            this.drawing.select(selected.has(this.#active) ? [...selected].filter(key => key !== this.#active) : [...selected, this.#active]);
+            const others = [...selected].filter(key => key !== this.#active);
+            this.drawing.select(selected.has(this.#active) ? others : [...others, this.#active]);
         } else if (event.key === 'Enter') {
             this.canvas.root.focus();
         } else return;

@@ -107,9 +107,10 @@ export class Panels {
     // ---- The state, and what is asked
 
     #state() {
-        const {state, words, store, last} = this.live, left = LIMIT - last;
+        const {state, words, reason, store, last} = this.live, left = LIMIT - last;
         find('#state').className = state;
-        const said = store.full ? 'No room to keep it here: leave this page open' : STATES[state];
+        const said = store.full ? 'No room to keep it here: leave this page open'
+            : state === 'offline' && reason ? `No connection: ${reason}` : STATES[state];
         if (find('#state').textContent !== said) find('#state').textContent = said;
         find('#state').title = words;
         put('#left', left > FEW ? '' : String(left), () => left > FEW ? [] : [
@@ -126,8 +127,12 @@ export class Panels {
         const bars = {
             watching: () => [html('span', {}, 'Another page of yours draws: this one watches.'),
                 button('Draw here', () => live.takeOver())],
-            asked: () => [html('span', {}, `${count} ${count > 1 ? 'changes wait' : 'change waits'} here, outlined: meanwhile your site drew elsewhere.`),
-                button('Draw them anew on the newest drawing', () => live.makeAnew()), button('Drop them', () => live.drop())],
+            asked: () => [
+                html('span', {}, `${count} ${count > 1 ? 'changes wait' : 'change waits'} here, outlined: `
+                    + 'meanwhile your site drew elsewhere.'),
+                button('Draw them anew on the newest drawing', () => live.makeAnew()),
+                button('Drop them', () => live.drop()),
+            ],
             refused: () => [html('span', {}, 'This is not taken yet. Mend it, or undo it.'),
                 button('Try again', () => live.sendAgain())],
         };
@@ -170,7 +175,8 @@ export class Panels {
 
     #card(object, versions) {
         const figures = versions.map(({figure}) => figure), [left, top, right, bottom] = join(figures.map(bounds));
-        const [x, y] = [(left + right) / 2, (top + bottom) / 2], half = .65 * Math.max(right - left, (bottom - top) * 4 / 3);
+        const [x, y] = [(left + right) / 2, (top + bottom) / 2];
+        const half = .65 * Math.max(right - left, (bottom - top) * 4 / 3);
         const around = [x - half, y - half * 3 / 4, x + half, y + half * 3 / 4];
         return html('article', {},
             html('h3', {}, `${versions.length} versions of ${figures[0].kind} ${object}`),
