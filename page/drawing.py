@@ -132,10 +132,14 @@ class Drawing:
             self.changed.clear()
             try:
                 text, status = await program.named(self.lines())
-                self.told = {'drawing': text, 'status': status}
+                self.told = {'drawing': text, 'status': status, **self.fault()}
             except Refusal as refusal:
                 self.told = {'fault': str(refusal)}
             self.tell(self.told)
+
+    def fault(self):
+        faults = [file.fault for file in self.files.values() if file.fault]
+        return {'fault': '; '.join(faults)} if faults else {}
 
     def tell_designers(self):
         self.tell({'designers': [

@@ -20,7 +20,7 @@ they are added to the file of the site. A page and the server exchange JSON over
             {"watching": WORDS}            nothing was made of it, as another page of the site draws
             {"again": WORDS}               the disk failed: the same is to be sent again
         to all pages, whenever something changed:
-            {"drawing": TEXT, "status": LINES} or {"fault": WORDS}
+            {"drawing": TEXT, "status": LINES, "fault": WORDS}    the last one alone, where there is no drawing
             {"designers": [{site, name, pages, holds}]}
 
 It needs python3-tornado, and the program figgroup (FIGGROUP names it, or it is on the PATH).

@@ -78,32 +78,34 @@ class SiteFile:
         return None
 
     def read_more(self):
-        """Reads what others added, as `draw pull` and `draw` do. Tells whether there was something."""
+        """Reads what others added, as `draw pull` and `draw` do. Tells whether there is something new."""
         state = self.look()
-        if state == self.state:
+        if state == self.state and not self.fault:
             return False
+        before, length = self.fault, len(self.lines)
         try:
-            found = self.path.read_bytes()
-        except FileNotFoundError:
-            found = b''
+            self.read(self.path.read_bytes() if state else b'')
+            self.state = state
+        except OSError as error:
+            self.fault = f'{self.path.name}: {error.strerror}'
+        return before != self.fault or length != len(self.lines)
+
+    def read(self, found):
         found = found[:found.rfind(b'\n') + 1]  # a line that has no end is still being written
-        self.state = state
         new = found[len(self.lines):]
+        self.fault = None
         if not found.startswith(self.lines):
             self.fault = f'{self.path.name} lost or changed operations that were there: fetch it'
         elif new.startswith(b'#FIG') or b'\n#FIG' in new:
             self.fault = f'{self.path.name} has a drawing among its operations'
         else:
-            self.fault = None
             self.know(new)
-            return bool(new)
-        return False
 
     def look(self):
         """What tells whether the file is another one, or has grown."""
         try:
             state = os.stat(self.path)
-        except FileNotFoundError:
+        except OSError:
             return None
         return state.st_ino, state.st_size, state.st_mtime_ns
 

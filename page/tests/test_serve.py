@@ -296,8 +296,17 @@ class Disk(ServeTest):
     async def test_lost_lines(self):
         client = await self.client()
         await client.take(drawing(box(0)))
-        (self.server.folder / 'site-1.jsonl').write_bytes(b'')
+        path = self.server.folder / 'site-1.jsonl'
+        kept = path.read_bytes()
+        path.write_bytes(b'')
+        while 'fault' not in (said := await client.hear('drawing')):
+            pass
+        self.assertIn('lost or changed', said['fault'])
         self.assertIn('lost or changed', (await client.take(drawing(box(900)), after=1))['refused'])
+        path.write_bytes(kept)
+        while 'fault' in (said := await client.hear('drawing')):
+            pass
+        self.assertEqual(2, (await client.take(drawing(box(0), box(900)), after=1))['taken'])
 
     async def test_draw_beside(self):
         """The words of draw and a page write for one site at once, and no number is given twice."""
