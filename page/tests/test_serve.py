@@ -204,6 +204,14 @@ class Strangers(ServeTest):
         said = subprocess.run(['/usr/bin/python3', '-c', code], cwd=PAGE, capture_output=True, text=True)
         self.assertEqual('4194304\n30\n\n', said.stdout, said.stderr)
 
+    def test_time_of_figgroup(self):
+        """A run that gives no answer is ended."""
+        code = ('import asyncio, program; program.FIGGROUP = "/bin/sh"\n'
+                'try: asyncio.run(program.run_within(0.3, ["-s"], b"exec sleep 60"))\n'
+                'except program.Refusal as refusal: print(refusal)')
+        said = subprocess.run(['/usr/bin/python3', '-c', code], cwd=PAGE, capture_output=True, text=True, timeout=30)
+        self.assertEqual('figgroup -s gave no answer within 0.3 seconds\n', said.stdout, said.stderr)
+
 
 class Disk(ServeTest):
     async def test_killed_anywhere(self):
