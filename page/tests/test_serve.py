@@ -296,10 +296,18 @@ class Disk(ServeTest):
     async def test_a_redo_file_that_does_not_fit(self):
         """Another program wrote in its place: it is given up, as nobody was told that it was made."""
         path, redo, first, second = await self.half()
-        redo.write_bytes(redo.read_bytes().replace(b'500', b'700'))
-        self.server.start()
+        others, third = second.replace(b'500', b'700'), second.replace(b'[1,2]', b'[1,3]')
+        for start, new in [(len(first), others + third), (len(first + second) + 9, third)]:
+            redo.write_bytes(b'%d {}\n' % start + new)
+            self.server.start()
+            self.server.kill()
+            self.assertFalse(redo.exists())
+            self.assertEqual(first + second, path.read_bytes())
+        self.server.draw('site', '1').communicate()
+        redo.write_bytes(b'%d {}\n' % len(first) + others + third)
+        said, _ = self.server.draw('set', '1.1', 'colour', '00ff00').communicate()
+        self.assertEqual('figgroup: made 1.3\n', said)
         self.assertFalse(redo.exists())
-        self.assertEqual(first + second, path.read_bytes())
 
     async def test_lost_lines(self):
         client = await self.client()
