@@ -1,2 +1,3 @@
 pub mod OneVersionLemmas
 mod TellingLemmas
+mod LackingLemmas

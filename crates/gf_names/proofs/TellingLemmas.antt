@@ -1,13 +1,13 @@
 -- The last of some ids that conflict with an operation, and these for all sites.
-use Rattle.std.proofs.Common.{◌≡◌, ℕ, ◌+◌, ◌≤◌, ◌<◌, List, [], ◌∷◌, ◌++◌, get_or, refl, sym, subst}
+use Rattle.std.proofs.Common.{◌≡◌, true, ℕ, ◌+◌, ◌≤◌, ◌<◌, List, [], ◌∷◌, ◌++◌, get_or, refl, sym, subst}
 use Rattle.std.proofs.Common.{ap, ◌∙◌, arith, inl, inr}
 use Rattle.std.specs.Prelude.{◌↔◌, ◌⊎◌, ◌==◌, Contains, Option, Some, None, filter, length, take}
 use Rattle.std.specs.Prelude.{drop, Ok, Err, Result, IfOk}
 use Rattle.std.specs.BTreeSet.{insert_key}
 use Rattle.std.specs.List.{fold}
-use Rattle.std.proofs.lemmas.Bool.{cases_lt}
+use Rattle.std.proofs.lemmas.Bool.{cases_lt, eqb-true}
 use Rattle.std.proofs.lemmas.Bool.Decides.{Decides-eqb}
-use Rattle.std.proofs.lemmas.List.{at_drop_more, take_all, take_more}
+use Rattle.std.proofs.lemmas.List.{at_drop_more, nil_from_length, take_all, take_more}
 use Rattle.std.proofs.lemmas.List.Elements.{Contains-append_left, Contains-push}
 use Rattle.std.proofs.lemmas.List.Elements.{Contains-push_cases}
 use Rattle.gf_base.proofs.FilterLemmas.{Contains-filter}
@@ -327,3 +327,22 @@ module _ (h : List Op) (members others : List OpId) where
           );
           rising = f.rising;
         }
+
+-- ---- none to tell from
+
+-- no others tell nothing
+pub told_none : (h : List Op) (members others : List OpId) → (length others == 0) ≡ true
+    → {E : Type 0} (r : Result (List OpId) E) → IfOk r (λ ids. IsRisingOf others ids)
+    → IfOk r (λ ids. AreTelling h members (IsMember h others) ids)
+told_none h members others empty (Err e) f = tt
+told_none h members others empty (Ok ids) f =
+    let none = nil_from_length others (eqb-true (length others) 0 empty) in
+    let never : (i : OpId) → ¬ (Contains others i) =
+    λ i c. not_Contains-nil i (subst (λ (s : List OpId). Contains s i) none c) in
+    record {
+      exactly = λ i. (
+        λ c. absurd (never i ((f.exactly i).0 c)),
+        λ t. absurd (never t.against.id t.other.grouped),
+      );
+      rising = f.rising;
+    }

@@ -1,3 +1,4 @@
 pub mod Telling
 pub mod RisingIds
 pub mod LastConflict
+pub mod Lacking

@@ -2,13 +2,16 @@
 //!
 //! - [`telling`]: of a group, the last operation of each site against each of the others.
 //! - [`rising`]: ids in their order, each once.
+//! - [`push_lacking`]: the ids of one list that another one lacks.
 //! - [`what_tells_a_version_is_in_no_other`]: the law.
 #![tactic(auto)]
 
+mod lacking;
 mod laws;
 mod names;
 mod sorting;
 
+pub use lacking::push_lacking;
 pub use laws::what_tells_a_version_is_in_no_other;
 pub use names::telling;
 pub use sorting::rising;

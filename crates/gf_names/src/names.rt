@@ -18,7 +18,7 @@ use std::alloc::Global;
 /// What tells the members of a group from others. Against each of these it is the last member of
 /// each site that conflicts directly with it. An id that the history lacks counts for nothing.
 ///
-/// Each member is compared with each of the others.
+/// Each member is compared with each of the others. Where there are none, nothing is read.
 pub fn telling(
     alloc: Global,
     history: &History,
@@ -30,6 +30,9 @@ pub fn telling(
 {
     // The clause of `ops` says that the history is valid.
     let _ = history.ops();
+    if others.is_empty() {
+        return rising(alloc, others);
+    }
     let mut found = Vec::new(alloc);
     for site in 1..9 {
         let own = of_site(alloc, members, site)?;

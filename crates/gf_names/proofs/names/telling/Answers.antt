@@ -3,6 +3,7 @@ use Rattle.std.specs.Prelude.{◌<◌, ◌↔◌, List, Contains}
 use Rattle.gf_ops.specs.declared.op.OpId.{OpId}
 use Rattle.gf_names.specs.LastConflict.{AreOfOneSite}
 use Rattle.gf_names.proofs.TellingLemmas.{Tells, site_first, site_more, site_last, one_site}
+use Rattle.gf_names.proofs.TellingLemmas.{told_none}
 use Rattle.gf_names.proofs.names.telling.Goals as goal
 
 pub loop-site-init : goal.loop-site-init
@@ -27,5 +28,10 @@ pub returns : goal.returns
 returns c =
     site_last c.args.history.now.ops c.args.members.now c.args.others.now c.ops.ensures.valid
     c.loop-site.found.items c.deref-2.result.now c.deref-2.ensures.value c.loop-site.site
-    c.rising.result
-    c.loop-site-test.false c.loop-site.invariant c.rising.ensures
+    c.rising-2.result
+    c.loop-site-test.false c.loop-site.invariant c.rising-2.ensures
+
+pub returns-then-is_empty : goal.returns-then-is_empty
+returns-then-is_empty c =
+    told_none c.args.history.now.ops c.args.members.now c.args.others.now
+    (sym c.is_empty.ensures ∙ c.if-is_empty.true) c.rising.result c.rising.ensures
