@@ -21,7 +21,7 @@ use Rattle.gf_fig_named.proofs.SilentLemmas.{IsOneLine, comment_alone}
 abbrev stays : ℕ → Bool
 stays b = not (is_line_feed b)
 
-one_append : (x y : List ℕ) → IsOneLine x → IsOneLine y → IsOneLine (x ++ y)
+pub one_append : (x y : List ℕ) → IsOneLine x → IsOneLine y → IsOneLine (x ++ y)
 one_append x y a b =
     list_all-append stays x y ∙ and_from (list_all stays x) (list_all stays y) a b
 
@@ -47,11 +47,11 @@ one_digits (suc k) n acc one =
       | inr e ↦ rw e (one_digits k (n / 10) (d ∷ acc) more)
     ]
 
-one_decimal : (n : ℕ) → IsOneLine (decimal n)
+pub one_decimal : (n : ℕ) → IsOneLine (decimal n)
 unfolding digits
 one_decimal n = one_digits 64 n [] refl
 
-one_id : (i : OpId) → IsOneLine (id_text i)
+pub one_id : (i : OpId) → IsOneLine (id_text i)
 one_id i = one_append (decimal i.site ++ codes ".") (decimal i.seq)
     (one_append (decimal i.site) (codes ".") (one_decimal i.site) refl) (one_decimal i.seq)
 
@@ -71,22 +71,26 @@ one_nothing : (text : List ℕ) → IsOneLine text → IsOneLine (or_nothing tex
 one_nothing [] one = refl
 one_nothing (b ∷ bs) one = one
 
+pub known_one : (counts : ℕ → ℕ) → IsOneLine (knows_comment counts)
+known_one counts =
+    let sites = flat_map (λ s. known_site s (counts s)) (range_with_len 1 8) in
+    one_append (codes "# figgroup knows") (or_nothing sites) refl
+    (one_nothing sites (one_flat (λ s. known_site s (counts s))
+    (λ s. one_known s (counts s)) (range_with_len 1 8)))
+
 -- what is known says nothing to a reader of FIG
 pub known_silent : (counts : ℕ → ℕ) (rest : List ℕ)
     → plain (lines (known_lines counts ++ rest)) ≡ plain (lines (codes "1200 2\n" ++ rest))
 known_silent counts rest =
     let sites = flat_map (λ s. known_site s (counts s)) (range_with_len 1 8) in
-    let line = codes " figgroup knows" ++ or_nothing sites in
-    let one : IsOneLine line = one_append (codes " figgroup knows") (or_nothing sites) refl
-    (one_nothing sites (one_flat (λ s. known_site s (counts s))
-    (λ s. one_known s (counts s)) (range_with_len 1 8))) in
     ap (λ t. plain (lines t)) (append_assoc (knows_comment counts) (codes "\n1200 2\n") rest)
-    ∙ comment_alone line (codes "1200 2\n" ++ rest) one
+    ∙ comment_alone (codes " figgroup knows" ++ or_nothing sites) (codes "1200 2\n" ++ rest)
+    (known_one counts)
 
 -- ---- names
 
 -- the parts that follow a first one, cut elsewhere
-cut_behind : (w x y z : List ℕ) → w ++ ((x ++ y) ++ z) ≡ (w ++ x) ++ (y ++ z)
+pub cut_behind : (w x y z : List ℕ) → w ++ ((x ++ y) ++ z) ≡ (w ++ x) ++ (y ++ z)
 cut_behind w x y z = ap (λ t. w ++ t) (append_assoc x y z) ∙ sym (append_assoc w x (y ++ z))
 
 ids_silent : (n : ℕ) (ids : List OpId) (line rest : List ℕ) → IsOneLine line

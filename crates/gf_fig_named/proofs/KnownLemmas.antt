@@ -1,6 +1,7 @@
 -- What is read of the comment on what was known is what it was written from.
 use Rattle.std.proofs.Common.{◌≡◌, ◌≢◌, ◌≤◌, ◌<◌, ℕ, zero, suc, ◌+◌, ◌-◌, Bool, true, false, List}
-use Rattle.std.proofs.Common.{[], ◌∷◌, ◌++◌, map, Option, Some, None, Result, Ok, Err, refl, sym, ap, subst, ◌∙◌, inl, inr, arith}
+use Rattle.std.proofs.Common.{[], ◌∷◌, ◌++◌, map, Option, Some, None, Result, Ok, Err, refl, sym}
+use Rattle.std.proofs.Common.{ap, subst, ◌∙◌, inl, inr, arith}
 use Rattle.std.specs.Prelude.{flat_map, codes, ◌==◌, nat_le, pos, filter_map}
 use Rattle.std.specs.Prelude.{IfNone, IfOk, if◌then◌else◌}
 use Rattle.std.specs.Fmt.{decimal, digits}
@@ -26,7 +27,7 @@ use Rattle.gf_fig_named.specs.Spelling.{spelt_number}
 abbrev id_at : ℕ → ℕ → OpId
 id_at s n = record { site = s; seq = n }
 
-site_digit : (s : ℕ) → IsSite s → decimal s ≡ (48 + s) ∷ []
+pub site_digit : (s : ℕ) → IsSite s → decimal s ≡ (48 + s) ∷ []
 unfolding digits
 site_digit zero h = let l = h.0 in absurd (omega (arith, l))
 site_digit (suc zero) h = refl
@@ -55,12 +56,12 @@ digit_spelt s n h l k =
     let back : (48 + s) - 48 ≡ s = omega arith in
     rw (digit, number_spelt n l k, back) refl
 
-spelt_back : (s n : ℕ) → IsSite s → 1 ≤ n → n ≤ 10000 → spelt_id (id_text (id_at s n)) ≡ Some (id_at s n)
+pub spelt_back : (s n : ℕ) → IsSite s → 1 ≤ n → n ≤ 10000 → spelt_id (id_text (id_at s n)) ≡ Some (id_at s n)
 spelt_back s n h l k =
     subst (λ d. spelt_id ((d ++ codes ".") ++ decimal n) ≡ Some (id_at s n)) (sym (site_digit s h))
     (digit_spelt s n h l k)
 
-id_word : (s n : ℕ) → IsSite s → n ≤ 10000 → is_word (id_text (id_at s n)) ≡ true
+pub id_word : (s n : ℕ) → IsSite s → n ≤ 10000 → is_word (id_text (id_at s n)) ≡ true
 id_word s n h k =
     let a = h.0 in
     let b = h.1 in
@@ -81,7 +82,7 @@ id_word s n h k =
 -- ---- the ids of sites
 
 -- the ids of sites that have operations
-abbrev ids_on : (ℕ → ℕ) → List ℕ → List OpId
+abbrev pub ids_on : (ℕ → ℕ) → List ℕ → List OpId
 ids_on f ks = flat_map (λ s. if f s == 0 then [] else id_at s (f s) ∷ []) ks
 
 module _ (f : ℕ → ℕ) where
@@ -139,7 +140,7 @@ module _ (f : ℕ → ℕ) where
             rw (e, other) (absent k (a + 1) s m (omega (arith, l)))
       ]
 
-  present : (k a s : ℕ) → a ≤ s → s < a + k → last_or s 0 (ids_on f (range_with_len a k)) ≡ f s
+  pub present : (k a s : ℕ) → a ≤ s → s < a + k → last_or s 0 (ids_on f (range_with_len a k)) ≡ f s
   present zero a s l m = absurd (omega (arith, l, m))
   present (suc k) a s l m = elim (cases_Bool (a == s)) [
     | inl e ↦ here (f a == 0) refl ((Decides-eqb a s).0 e) e
@@ -179,7 +180,7 @@ comment_words : (ws : List (List ℕ)) → list_all is_word ws ≡ true
     → words (codes "# figgroup knows" ++ led ws) ≡ codes "#" ∷ codes "figgroup" ∷ codes "knows" ∷ ws
 comment_words ws h = words_led (codes "#") (codes "figgroup" ∷ codes "knows" ∷ ws) refl h
 
-ids_told : (f : ℕ → ℕ) → ((s : ℕ) → IsSite s → f s ≤ 10000)
+pub ids_told : (f : ℕ → ℕ) → ((s : ℕ) → IsSite s → f s ≤ 10000)
     → spelt_ids (knows_comment f) ≡ ids_on f (range_with_len 1 8)
 ids_told f few =
     let on = range_with_len 1 8 in
@@ -200,6 +201,21 @@ counts_told c few s h =
     let m = h.1 in
     ap (last_or s 0) (ids_told (entry c) few)
     ∙ present (entry c) 8 1 s l (omega (arith, m))
+
+-- the entries of a clock that counts so many operations of each site
+pub counted_entry : (f : ℕ → ℕ) (s : ℕ) → IsSite s
+    → entry (record { 0 = map f (range_with_len 1 8) }) s ≡ f s
+counted_entry f zero h = let l = h.0 in absurd (omega (arith, l))
+counted_entry f (suc zero) h = refl
+counted_entry f (suc (suc zero)) h = refl
+counted_entry f (suc (suc (suc zero))) h = refl
+counted_entry f (suc (suc (suc (suc zero)))) h = refl
+counted_entry f (suc (suc (suc (suc (suc zero))))) h = refl
+counted_entry f (suc (suc (suc (suc (suc (suc zero)))))) h = refl
+counted_entry f (suc (suc (suc (suc (suc (suc (suc zero))))))) h = refl
+counted_entry f (suc (suc (suc (suc (suc (suc (suc (suc zero)))))))) h = refl
+counted_entry f (suc (suc (suc (suc (suc (suc (suc (suc (suc s))))))))) h =
+    let l = h.1 in absurd (omega (arith, l))
 
 -- clocks that count alike are told alike
 pub same_comment : (f g : ℕ → ℕ) → ((s : ℕ) → IsSite s → f s ≡ g s)

@@ -2,6 +2,16 @@ pub mod SilentLemmas
 pub mod CommentLemmas
 pub mod RaisedLemmas
 pub mod NamedLemmas
+pub mod TakenLemmas
+pub mod LackedLemmas
 pub mod NameLemmas
 pub mod TextLemmas
 pub mod KnownLemmas
+pub mod AboveLemmas
+pub mod CountedLemmas
+pub mod StepLemmas
+pub mod OutlineLemmas
+pub mod ObjectLemmas
+pub mod LeadLemmas
+pub mod ScanLemmas
+pub mod BeneathLemmas

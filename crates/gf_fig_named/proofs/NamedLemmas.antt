@@ -240,7 +240,7 @@ module _ (h : List Op) (text : List ℕ) (valid : IsValid h) (named : IsNamedTex
   abbrev its_depth : ℕ → ℕ
   its_depth = named_depth (length named.items)
 
-  abbrev its_raised : DrawingState AnyShape
+  abbrev pub its_raised : DrawingState AnyShape
   its_raised = raised its_depth its_drawing
 
   its_canonical : IsCanonical h its_drawing
@@ -266,17 +266,24 @@ module _ (h : List Op) (text : List ℕ) (valid : IsValid h) (named : IsNamedTex
   its_names = as_many h named.items named.names named.named
       ∙ sym (length-map (canonical_figures named.items) (figure_raised its_depth))
 
+  its_bytes : All (λ (e : ℕ × Rgb). HasBytes e.1) its_raised.table
+  its_bytes =
+      let items = named.items in
+      table_bytes 32 (colours_of items) (seen_bytes (map (λ (i : Placed AnyShape). i.colour) items)
+      (All-map HasBytes (λ (i : Placed AnyShape). i.colour) items
+      (items_bytes h valid items named.ranked)))
+
+  its_shapes : All (DrawsLawfully any_outline) its_raised.figures
+  its_shapes = outlined_still any_outline its_depth its_drawing.figures
+      (figures_outlined (colours_of named.items) 0 named.items
+      (items_outlined h valid named.items named.ranked))
+
   -- the named text reads as the drawing of the outlines
   pub named_text_reads : Reads text (outlined any_outline its_raised)
   named_text_reads =
-      let items = named.items in
       subst (λ (t : List ℕ). Reads t (outlined any_outline its_raised)) (sym named.is)
-      (named_reads any_outline (count_of h) named.names its_raised its_names lawful_raised
-      (table_bytes 32 (colours_of items) (seen_bytes (map (λ (i : Placed AnyShape). i.colour) items)
-      (All-map HasBytes (λ (i : Placed AnyShape). i.colour) items
-      (items_bytes h valid items named.ranked))))
-      (outlined_still any_outline its_depth its_drawing.figures
-      (figures_outlined (colours_of items) 0 items (items_outlined h valid items named.ranked))))
+      (named_reads any_outline (count_of h) named.names its_raised its_names lawful_raised its_bytes
+      its_shapes)
 
   -- the named text shows the history
   pub named_text_shows : Shows text h

@@ -26,17 +26,17 @@ pub record EndsLine (text : List ℕ) : Type 0 where
   pub is : text ≡ line ++ 10 ∷ []
 
 -- some lines, of which there is a first
-record HasFirst (ls : List (List ℕ)) : Type 0 where
-  head : List ℕ
-  others : List (List ℕ)
-  is : ls ≡ head ∷ others
+pub record HasFirst (ls : List (List ℕ)) : Type 0 where
+  pub head : List ℕ
+  pub others : List (List ℕ)
+  pub is : ls ≡ head ∷ others
 
 is_not : (b : Bool) → not b ≡ true → b ≡ false
 is_not true t = absurd cc
 is_not false t = refl
 
 -- a text with a line feed has a first line
-has_first : (line rest : List ℕ) → HasFirst (lines (line ++ 10 ∷ rest))
+pub has_first : (line rest : List ℕ) → HasFirst (lines (line ++ 10 ∷ rest))
 has_first [] rest = record { head = []; others = lines rest; is = refl }
 has_first (b ∷ bs) rest = elim (cases_Bool (is_line_feed b)) [
   | inl t ↦ record { head = []; others = lines (bs ++ 10 ∷ rest); is = rw t refl }

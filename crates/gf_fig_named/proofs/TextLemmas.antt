@@ -9,7 +9,7 @@ use Rattle.std.proofs.lemmas.Grind.{flat_map-append}
 use Rattle.std.proofs.lemmas.Slice.Zip.{get_or-zip, length-zip}
 use Rattle.gf_ops.specs.declared.op.OpId.{OpId}
 use Rattle.gf_fig_named.specs.Comments.{nth_id}
-use Rattle.gf_fig_named.proofs.NameLemmas.{any_default, taken, taken_all, taken_flat}
+use Rattle.gf_fig_named.proofs.TakenLemmas.{any_default, taken, taken_all, taken_flat}
 
 -- ---- sites
 

@@ -6,3 +6,6 @@ pub mod Raised
 pub mod NamedText
 pub mod Others
 pub mod ThinPolygons
+pub mod NamesAbove
+pub mod FigureNames
+pub mod NamedFigures

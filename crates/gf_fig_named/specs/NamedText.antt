@@ -1,6 +1,7 @@
 -- The FIG text of a history whose figures are named (Xfig, FIG Format 3.2); its comments and depths
 -- are this project's choice.
-use Rattle.std.specs.Prelude.{◌≡◌, ◌≢◌, ℕ, List, ◌++◌, Contains, codes, flat_map, length, zip}
+use Rattle.std.specs.Prelude.{◌≡◌, ◌≢◌, ◌<◌, ◌≤◌, ℕ, List, ◌++◌, Contains, codes, flat_map}
+use Rattle.std.specs.Prelude.{length, zip}
 use Rattle.std.specs.List.{AllZip}
 use Rattle.gf_shape.specs.declared.any_shape.AnyShape.{AnyShape}
 use Rattle.gf_shape.specs.declared.outline.Outline.{Outline}
@@ -9,11 +10,12 @@ use Rattle.gf_ops.specs.declared.op.Op.{Op}
 use Rattle.gf_ops.specs.OperationOrder.{count_of}
 use Rattle.gf_ops.specs.Version.{IsMember}
 use Rattle.gf_versions.specs.declared.placed.Placed.{Placed}
+use Rattle.gf_versions.specs.declared.ranking.TheConstants.{MOST_VERSIONS}
 use Rattle.gf_versions.specs.Ranking.{AreRanked}
 use Rattle.gf_names.specs.Telling.{AreTelling}
 use Rattle.gf_figures.specs.declared.figure.Figure.{Figure}
 use Rattle.gf_figures.specs.DrawingState.{DrawingState}
-use Rattle.gf_drawing.specs.CanonicalDrawing.{Fits, canonical_drawing}
+use Rattle.gf_drawing.specs.CanonicalDrawing.{Fits, canonical_drawing, colours_of}
 use Rattle.gf_fig_write.specs.FigText.{colour_line, figure_lines}
 use Rattle.gf_fig_named.specs.declared.naming.Name.{Name}
 use Rattle.gf_fig_named.specs.Comments.{knows_comment, name_lines}
@@ -64,3 +66,10 @@ pub record IsNamedText (h : List Op) (text : List ℕ) : Type 0 where
   pub named : AllZip (IsNameOf h items) items names
   pub is : text ≡ named_text any_outline (count_of h) names
       (raised (named_depth (length items)) (canonical_drawing items))
+
+-- h has at most 1,000 visible versions, of more than 512 distinct colours
+pub record HasMoreColours (h : List Op) : Type 0 where
+  pub items : List (Placed AnyShape)
+  pub ranked : AreRanked h items
+  pub few : length items ≤ MOST_VERSIONS
+  pub many : 512 < length (colours_of items)

@@ -1,20 +1,28 @@
-//! The names of the figures of a text. What is promised of them is that the reading is safe.
+//! The names of the figures of a text.
 
-use crate::spelling::{push_ids, spelt_id, spelt_number};
-use crate::{Name, Named};
+ghost use Rattle.std.specs.Prelude.{◌≡◌, ◌≤◌, ◌++◌, IfOk, OnOk, None};
+ghost use Rattle.std.specs.List.{fold};
+ghost use Rattle.gf_fig_tokens.specs.Layout.{lines, words};
+ghost use Rattle.gf_fig_read.specs.FigGrammar.{Reads};
+ghost use Rattle.gf_fig_read.specs.Objects.{Drawn};
+ghost use Rattle.gf_fig_named.specs.FigureNames.{begins, begun, behind_header, behind_lines};
+ghost use Rattle.gf_fig_named.specs.FigureNames.{is_figure, left_behind, line_figures, next};
+ghost use Rattle.gf_fig_named.specs.FigureNames.{points};
+ghost use Rattle.gf_fig_named.specs.NamedFigures.{AreNamed};
+ghost use Rattle.gf_fig_named.specs.NamesAbove.{are_none, is_silent, name_above};
+ghost use Rattle.gf_fig_named.specs.Spelling.{spelt_number};
+ghost use Rattle.gf_fig_tokens.specs.Forms.{whole};
+
+use crate::Named;
+use crate::above::name_above;
+use crate::spelling::spelt_number;
 use gf_base::OutOfMemory;
 use gf_fig_tokens::{cut_line, cut_word, is_comment, whole};
-use gf_ops::{Ids, ObjectId, OpId};
 use std::alloc::Global;
 
-/// How the comments begin that name a figure, and those that go on with its ids.
-const NAME: &[u8] = b"# figgroup ";
-
-const FURTHER: &[u8] = b"# figgroup with ";
-
-/// How many lines of a text stand before the tokens of its objects, comments behind the first one
-/// aside, and how many tokens the resolution has.
-const HEADER_LINES: u32 = 8;
+/// How many lines of a text stand behind its first one and before the tokens of its objects,
+/// comments aside, and how many tokens the resolution has.
+const HEADER_LINES: u32 = 7;
 
 const RESOLUTION: u32 = 2;
 
@@ -28,22 +36,9 @@ const POLYLINE: u32 = 15;
 /// The most points of a polyline.
 const MOST_POINTS: u32 = 65_536;
 
-/// What comment lines name.
-#[derive(Drop)]
-struct Above {
-    object: ObjectId,
-    depth: u16,
-    ids: Vec<OpId>,
-}
-
-/// The names of the figures so far, and where the next line stands.
-#[derive(Drop)]
-struct Scan {
-    figures: Vec<Option<Named>>,
-    /// What the comments directly above name.
-    above: Option<Above>,
-    /// How many lines of the header are to come.
-    header: u32,
+/// Where a reading of tokens stands.
+#[derive(Clone, Copy)]
+struct Place {
     /// How many tokens of what has begun are to come.
     left: u32,
     /// Whether the last of these tokens is the count of points that follow.
@@ -51,124 +46,188 @@ struct Scan {
 }
 
 /// What the comments directly above each figure name, in file order.
-pub(crate) fn figure_names(alloc: Global, fig: &[u8]) -> Result<Vec<Option<Named>>, OutOfMemory> {
-    let mut scan = Scan {
-        figures: Vec::new(alloc),
-        above: None,
-        header: HEADER_LINES,
+pub(crate) fn figure_names(alloc: Global, fig: &[u8]) -> Result<Vec<Option<Named>>, OutOfMemory>
+    ensures { (d : Drawn) → Reads fig.now d
+        → IfOk result (λ names. AreNamed fig.now d names.items) }
+{
+    let mut names = Vec::new(alloc);
+    let mut place = Place {
         left: RESOLUTION,
         counts: false,
     };
-    let mut rest = fig;
+    let mut rest = behind_header(fig);
+    let mut above = rest;
     while let Some((line, after)) = cut_line(rest) {
-        scan.take_line(alloc, line)?;
+        if !is_silent(line) {
+            place = push_figures(alloc, &mut names, place, above, line)?;
+            above = after;
+        }
         rest = after;
     }
-    Ok(scan.figures)
+    Ok(names)
 }
 
-impl Scan {
-    /// Takes the next line. The first one is of the header, though it begins as a comment does.
-    fn take_line(&mut self, alloc: Global, line: &[u8]) -> Result<(), OutOfMemory> {
-        if self.header < HEADER_LINES && is_comment(line) {
-            return self.take_comment(alloc, line);
-        }
-        if 0 < self.header {
-            self.header -= 1;
-            return Ok(());
-        }
-        let mut rest = line;
-        while let Some((token, after)) = cut_word(rest) {
-            self.take_token(token)?;
-            self.above = None;
-            rest = after;
-        }
-        Ok(())
-    }
-
-    /// Takes a comment, which may name the figure beneath it, or go on with its name.
-    fn take_comment(&mut self, alloc: Global, line: &[u8]) -> Result<(), OutOfMemory> {
-        if let Some(ids) = line.strip_prefix(FURTHER) {
-            if let Some(above) = &mut self.above {
-                push_ids(&mut above.ids, ids)?;
-            }
-        } else if let Some(name) = line.strip_prefix(NAME) {
-            self.above = spelt_name(alloc, name)?;
-        }
-        Ok(())
-    }
-
-    /// Takes the next token. One that begins a figure gives it the name above.
-    fn take_token(&mut self, token: &[u8]) -> Result<(), OutOfMemory> {
-        if 0 < self.left {
-            self.left -= 1;
-            if self.left == 0 && self.counts {
-                self.counts = false;
-                self.left = 2 * spelt_number(token, MOST_POINTS).unwrap_or(0);
-            }
-            return Ok(());
-        }
-        match whole(token) {
-            Some(0) => self.left = COLOUR,
-            Some(1) => {
-                self.begin_figure()?;
-                self.left = ELLIPSE;
-            }
-            Some(2) => {
-                self.begin_figure()?;
-                self.left = POLYLINE;
-                self.counts = true;
-            }
-            _ => {}
-        }
-        Ok(())
-    }
-
-    /// Begins a figure, which has the name above.
-    fn begin_figure(&mut self) -> Result<(), OutOfMemory> {
-        let named = match self.above.take() {
-            Some(above) => Some(Named {
-                name: Name {
-                    object: above.object,
-                    telling: Ids::new(above.ids),
-                },
-                depth: above.depth,
-            }),
-            None => None,
-        };
-        self.figures.push(named)?;
-        Ok(())
+/// What follows the first line and those of the header.
+fn behind_header(fig: &[u8]) -> &[u8]
+    ensures { lines result.now ≡ behind_header (lines fig.now) }
+{
+    match cut_line(fig) {
+        Some((_, rest)) => behind_lines(rest, HEADER_LINES),
+        None => fig,
     }
 }
 
-/// The name that a text spells.
-fn spelt_name(alloc: Global, text: &[u8]) -> Result<Option<Above>, OutOfMemory> {
-    let Some((object, depth, rest)) = spelt_figure(text) else {
-        return Ok(None);
+/// What follows so many lines that are no comments.
+fn behind_lines(text: &[u8], count: u32) -> &[u8]
+    ensures { lines result.now ≡ behind_lines count (lines text.now) }
+{
+    let mut rest = text;
+    let mut left = count;
+    while let Some((line, after)) = cut_line(rest) {
+        if left == 0 {
+            return rest;
+        }
+        left = left_behind(left, line);
+        rest = after;
+    }
+    rest
+}
+
+/// How many lines that are no comments are left behind this one, of so many.
+fn left_behind(left: u32, line: &[u8]) -> u32
+    requires { 1 ≤ left }
+    ensures { result ≡ left_behind left line.now }
+{
+    if is_comment(line) { left } else { left - 1 }
+}
+
+/// Whether the line is a comment, or has no token.
+pub(crate) fn is_silent(line: &[u8]) -> bool
+    ensures { result ≡ is_silent line.now }
+{
+    is_comment(line) || has_no_word(line)
+}
+
+fn has_no_word(line: &[u8]) -> bool
+    ensures { result ≡ are_none (words line.now) }
+{
+    match cut_word(line) {
+        Some(_) => false,
+        None => true,
+    }
+}
+
+/// Adds the names of the figures that begin on a line, and says where the reading then stands. Only
+/// what its first token begins is directly beneath the lines above.
+fn push_figures(
+    alloc: Global,
+    names: &mut Vec<Option<Named>>,
+    place: Place,
+    above: &[u8],
+    line: &[u8],
+) -> Result<Place, OutOfMemory>
+    ensures names { OnOk result (names.new.items ≡ names.old.items
+        ++ line_figures place (name_above (lines above.now)) (words line.now)) }
+    ensures place { IfOk result (λ p. p ≡ fold next place (words line.now)) }
+{
+    let Some((token, rest)) = cut_word(line) else {
+        return Ok(place);
     };
-    let mut ids = Vec::new(alloc);
-    push_ids(&mut ids, rest)?;
-    Ok(Some(Above { object, depth, ids }))
+    if begins(place, token) {
+        names.push(name_above(alloc, above)?)?;
+    }
+    push_unnamed(names, next(place, token), rest)
 }
 
-/// The object and the depth that a text begins with, and what follows them.
-fn spelt_figure(text: &[u8]) -> Option<(ObjectId, u16, &[u8])> {
-    let (object, rest) = cut_word(text)?;
-    let (at, rest) = cut_word(rest)?;
-    let (depth, rest) = cut_word(rest)?;
-    if at != b"at".as_slice() {
-        return None;
+/// The same where nothing above names a figure.
+fn push_unnamed(
+    names: &mut Vec<Option<Named>>,
+    place: Place,
+    line: &[u8],
+) -> Result<Place, OutOfMemory>
+    ensures names { OnOk result (names.new.items ≡ names.old.items
+        ++ line_figures place None (words line.now)) }
+    ensures place { IfOk result (λ p. p ≡ fold next place (words line.now)) }
+{
+    let mut place = place;
+    let mut rest = line;
+    while let Some((token, after)) = cut_word(rest) {
+        if begins(place, token) {
+            names.push(None)?;
+        }
+        place = next(place, token);
+        rest = after;
     }
-    let object = spelt_id(object)?;
-    let depth = spelt_depth(depth)?;
-    Some((ObjectId(object), depth, rest))
+    Ok(place)
 }
 
-/// The depth that a word spells, 0 to 999.
-fn spelt_depth(word: &[u8]) -> Option<u16> {
-    let depth = u16::try_from(whole(word)?).ok()?;
-    if 999 < depth {
-        return None;
+/// Whether a token begins a figure.
+fn begins(place: Place, token: &[u8]) -> bool
+    ensures { result ≡ begins place token.now }
+{
+    place.left == 0 && is_figure(token)
+}
+
+/// Whether a token begins a figure where it begins an object: an ellipse, or a polyline.
+fn is_figure(token: &[u8]) -> bool
+    ensures { result ≡ is_figure (whole token.now) }
+{
+    match whole(token) {
+        Some(number) => number == 1 || number == 2,
+        None => false,
     }
-    Some(depth)
+}
+
+/// Where the reading stands behind a token.
+fn next(place: Place, token: &[u8]) -> Place
+    ensures { result ≡ next place token.now }
+{
+    if place.left == 0 {
+        begun(token)
+    } else if place.left == 1 && place.counts {
+        points(token)
+    } else {
+        Place {
+            left: place.left - 1,
+            counts: place.counts,
+        }
+    }
+}
+
+/// Where the reading stands behind the first token of an object.
+fn begun(token: &[u8]) -> Place
+    ensures { result ≡ begun (whole token.now) }
+{
+    match whole(token) {
+        Some(0) => Place {
+            left: COLOUR,
+            counts: false,
+        },
+        Some(1) => Place {
+            left: ELLIPSE,
+            counts: false,
+        },
+        Some(2) => Place {
+            left: POLYLINE,
+            counts: true,
+        },
+        _ => Place {
+            left: 0,
+            counts: false,
+        },
+    }
+}
+
+/// Where the reading stands behind a count of points.
+fn points(token: &[u8]) -> Place
+    ensures { result ≡ points (spelt_number 65536 token.now) }
+{
+    let left = match spelt_number(token, MOST_POINTS) {
+        Some(count) => 2 * count,
+        None => 0,
+    };
+    Place {
+        left,
+        counts: false,
+    }
 }

@@ -1,13 +1,14 @@
 //! What a named text tells that was known.
 
-ghost use Rattle.std.specs.Prelude.{◌≡◌, ◌≢◌, ◌↔◌, ℕ, [], ◌∷◌, Some, None, IfNone, IfOk, IfSome, IsTrue};
+ghost use Rattle.std.specs.Prelude.{◌≡◌, ◌≢◌, ◌↔◌, ℕ, [], ◌∷◌, Some, None, IfNone, IfOk, IfSome};
+ghost use Rattle.std.specs.Prelude.{IsTrue};
 ghost use Rattle.std.specs.List.{find};
 ghost use Rattle.gf_ops.specs.declared.op.Clock.{Clock};
 ghost use Rattle.gf_ops.specs.OperationOrder.{IsSite, entry};
 ghost use Rattle.gf_fig_tokens.specs.Layout.{lines};
 ghost use Rattle.gf_fig_named.specs.Comments.{knows_comment};
 ghost use Rattle.gf_fig_named.specs.Known.{AreCounts, TellsKnown, begins_known};
-ghost use Rattle.gf_fig_named.specs.KnownSteps.{last_or};
+ghost use Rattle.gf_fig_named.specs.KnownSteps.{CountsFirst, last_numbers, last_or};
 ghost use Rattle.gf_fig_named.specs.Spelling.{spelt_ids};
 
 use crate::comments::knows_comment;
@@ -26,6 +27,7 @@ pub(crate) fn known(alloc: Global, fig: &[u8]) -> Result<Option<Clock>, OutOfMem
     ensures told { IfOk result (λ known. IfSome known (TellsKnown fig.now)) }
     ensures none { IfOk result (λ known. IfNone known
         ((c : Clock) → AreCounts c → ¬ (TellsKnown fig.now c))) }
+    ensures counted { IfOk result (λ known. IfSome known (CountsFirst fig.now)) }
 {
     match knows_line(fig) {
         Some(line) => known_by(alloc, line),
@@ -59,6 +61,8 @@ fn known_by(alloc: Global, line: &[u8]) -> Result<Option<Clock>, OutOfMemory>
     ensures told { IfOk result (λ known. IfSome known (λ c. line.now ≡ knows_comment (entry c))) }
     ensures none { IfOk result (λ known. IfNone known
         ((c : Clock) → AreCounts c → line.now ≢ knows_comment (entry c))) }
+    ensures counted { IfOk result (λ known. IfSome known
+        (λ c. c ≡ last_numbers (spelt_ids line.now))) }
 {
     let mut ids = Vec::new(alloc);
     push_ids(&mut ids, line)?;
@@ -80,7 +84,7 @@ fn is_same(text: &[u8], other: &[u8]) -> bool
 
 /// The number of the last id of each site.
 fn counts_of(ids: &[OpId]) -> Clock
-    ensures { (s : ℕ) → IsSite s → entry result s ≡ last_or s 0 ids.now }
+    ensures { result ≡ last_numbers ids.now }
 {
     Clock([
         last_of(ids, 1),

@@ -1,18 +1,20 @@
 //! Names of visible versions.
 
-ghost use Rattle.std.specs.Prelude.{◌≡◌, ◌↔◌, Contains, IfOk, IsTrue};
+ghost use Rattle.std.specs.Prelude.{◌≡◌, ◌↔◌, ◌⊎◌, ◌<◌, ◌≤◌, Contains, IfOk, IsTrue, OnOk, length};
+ghost use Rattle.std.specs.Prelude.{slice_index_or};
 ghost use Rattle.std.specs.List.{AllZip};
-ghost use Rattle.gf_ops.specs.Attribute.{object_of};
-ghost use Rattle.gf_ops.specs.Version.{HasOn};
+ghost use Rattle.std.specs.List.Sorted.{IsStrictlySortedBy};
+ghost use Rattle.gf_ops.specs.OperationOrder.{id_cmp};
 ghost use Rattle.gf_ops.specs.declared.op.OpId.{OpId};
 ghost use Rattle.gf_versions.specs.Ranking.{AreRanked};
 ghost use Rattle.gf_fig_named.specs.NamedText.{IsNameOf};
-ghost use Rattle.gf_fig_named.specs.Others.{AreElsewhere, IsElsewhere, IsItemNamed, IsNameAmong};
-ghost use Rattle.gf_fig_named.specs.Others.{ids_of};
+ghost use Rattle.gf_fig_named.specs.Others.{AreElsewhere, AreLackedAt, AreOfOne, AreOthers};
+ghost use Rattle.gf_fig_named.specs.Others.{AreRising};
+ghost use Rattle.gf_fig_named.specs.Others.{IsLackedOf, IsLead, IsNameAmong};
 
 use gf_base::OutOfMemory;
-use gf_names::{rising, telling};
-use gf_ops::{History, Ids, ObjectId, Op, OpId};
+use gf_names::{push_lacking, rising, telling};
+use gf_ops::{History, Ids, ObjectId, OpId};
 use gf_shape::AnyShape;
 use gf_versions::{Placed, VersionKey};
 use std::alloc::Global;
@@ -25,9 +27,17 @@ pub struct Name {
     pub telling: Ids,
 }
 
-/// A name for each of the visible versions, in their order. Each version is compared with all
-/// operations of visible versions.
-pub(crate) fn names_of(
+/// The first of items of one object that follow each other, and the ids of its object that it
+/// lacks.
+#[derive(Drop)]
+struct Lead {
+    first: usize,
+    lacked: Ids,
+}
+
+/// A name for each of the visible versions, in their order. Versions of one object that follow each
+/// other are compared with the first of them. This one is compared with all of its object.
+pub fn names_of(
     alloc: Global,
     history: &History,
     items: &[Placed<AnyShape>],
@@ -38,110 +48,132 @@ pub(crate) fn names_of(
 {
     // The clause of `ops` says that the history is valid.
     let _ = history.ops();
-    let shown = shown_ids(alloc, items)?;
-    names_among(alloc, history, shown.as_slice(), items)
-}
-
-/// The ids of the operations of all these versions.
-fn shown_ids(alloc: Global, items: &[Placed<AnyShape>]) -> Result<Ids, OutOfMemory>
-    ensures { IfOk result (λ ids. (i : OpId)
-        → Contains ids i ↔ Contains (ids_of items.now) i) }
-{
-    let ids = all_ids(alloc, items)?;
-    rising(alloc, &ids)
-}
-
-/// The ids of the operations of each of these versions, one version after another.
-fn all_ids(alloc: Global, items: &[Placed<AnyShape>]) -> Result<Vec<OpId>, OutOfMemory>
-    ensures { IfOk result (λ ids. ids.items ≡ ids_of items.now) }
-{
-    let mut ids = Vec::new(alloc);
-    for item in items {
-        ids.extend_from_slice(item.key.ops.as_slice())?;
-    }
-    Ok(ids)
-}
-
-/// A name for each of the versions, by which it is told from those of the ids that it lacks.
-fn names_among(
-    alloc: Global,
-    history: &History,
-    ids: &[OpId],
-    items: &[Placed<AnyShape>],
-) -> Result<Vec<Name>, OutOfMemory>
-    ensures { IfOk result (λ names.
-        AllZip (IsItemNamed history.now.ops ids.now) items.now names.items) }
-{
     let mut names = Vec::new(alloc);
-    for item in items {
-        names.push(name_of(alloc, history, ids, &item.key)?)?;
+    let mut lead = Lead {
+        first: 0,
+        lacked: Ids::new(Vec::new(alloc)),
+    };
+    for index in 0..items.len() {
+        lead = lead_of(alloc, items, index, lead)?;
+        let ids = items[lead.first].key.ops.as_slice();
+        names.push(name_of(
+            alloc,
+            history,
+            ids,
+            lead.lacked.as_slice(),
+            &items[index].key,
+        )?)?;
     }
     Ok(names)
 }
 
-/// The name of a version: what tells it from those of the ids that it lacks.
+/// What leads the item at this index: the one before, if it is of the same object, or the item.
+fn lead_of(
+    alloc: Global,
+    items: &[Placed<AnyShape>],
+    index: usize,
+    before: Lead,
+) -> Result<Lead, OutOfMemory>
+    requires rising { AreRising items.now }
+    requires within { index < length items.now }
+    requires before { 1 ≤ index → IsLead items.now before }
+    ensures lead { IfOk result (IsLead items.now) }
+    ensures object { IfOk result (λ lead. AreOfOne items.now lead.first index) }
+{
+    if 0 < index && is_same(items[before.first].key.object, items[index].key.object) {
+        return Ok(before);
+    }
+    let lacked = lacked_ids(alloc, items, index)?;
+    Ok(Lead {
+        first: index,
+        lacked,
+    })
+}
+
+fn is_same(object: ObjectId, other: ObjectId) -> bool
+    ensures { IsTrue result ↔ object ≡ other }
+{
+    object == other
+}
+
+/// The ids of the other items of its object that the item at this index lacks.
+fn lacked_ids(alloc: Global, items: &[Placed<AnyShape>], index: usize) -> Result<Ids, OutOfMemory>
+    requires rising { AreRising items.now }
+    requires within { index < length items.now }
+    ensures { IfOk result (AreLackedAt items.now index) }
+{
+    let found = elsewhere(alloc, items, index, &items[index])?;
+    rising(alloc, &found)
+}
+
+/// The same, maybe more than once each.
+fn elsewhere(
+    alloc: Global,
+    items: &[Placed<AnyShape>],
+    index: usize,
+    item: &Placed<AnyShape>,
+) -> Result<Vec<OpId>, OutOfMemory>
+    requires rising { AreRising items.now }
+    requires within { index < length items.now }
+    requires at { item.now ≡ slice_index_or items.now index item.now }
+    ensures { IfOk result (λ others. AreElsewhere items.now item.now.key others.items) }
+{
+    let mut others = Vec::new(alloc);
+    for (place, other) in items.iter().enumerate() {
+        if place != index {
+            push_lacked(&mut others, &other.key, &item.key)?;
+        }
+    }
+    Ok(others)
+}
+
+/// Appends the ids of one version that another one of the same object lacks.
+fn push_lacked(out: &mut Vec<OpId>, other: &VersionKey, key: &VersionKey) -> Result<(), OutOfMemory>
+    requires other { IsStrictlySortedBy id_cmp other.now.ops }
+    requires key { IsStrictlySortedBy id_cmp key.now.ops }
+    ensures { OnOk result ((i : OpId) → Contains out.new.items i ↔ (Contains out.old.items i
+        ⊎ IsLackedOf key.now other.now i)) }
+{
+    if other.object != key.object {
+        return Ok(());
+    }
+    push_lacking(out, other.ops.as_slice(), key.ops.as_slice())
+}
+
+/// The name of a version: what tells it from those that have these ids, or ids that those lack.
 fn name_of(
     alloc: Global,
     history: &History,
     ids: &[OpId],
+    lacked: &[OpId],
     key: &VersionKey,
 ) -> Result<Name, OutOfMemory>
-    ensures { IfOk result (IsNameAmong history.now.ops ids.now key.now) }
+    requires ids { IsStrictlySortedBy id_cmp ids.now }
+    requires lacked { IsStrictlySortedBy id_cmp lacked.now }
+    requires key { IsStrictlySortedBy id_cmp key.now.ops }
+    ensures { IfOk result (IsNameAmong history.now.ops ids.now lacked.now key.now) }
 {
-    let others = elsewhere(alloc, history, ids, key)?;
+    let others = others_of(alloc, ids, lacked, key.ops.as_slice())?;
     Ok(Name {
         object: key.object,
         telling: telling(alloc, history, key.ops.as_slice(), &others)?,
     })
 }
 
-/// The ids of operations on the object of a version that this version lacks.
-fn elsewhere(
+/// Those of the ids and of the others that a version with its own ids lacks.
+fn others_of(
     alloc: Global,
-    history: &History,
     ids: &[OpId],
-    key: &VersionKey,
+    lacked: &[OpId],
+    own: &[OpId],
 ) -> Result<Vec<OpId>, OutOfMemory>
-    ensures { IfOk result (λ others. AreElsewhere history.now.ops ids.now key.now others.items) }
+    requires ids { IsStrictlySortedBy id_cmp ids.now }
+    requires lacked { IsStrictlySortedBy id_cmp lacked.now }
+    requires own { IsStrictlySortedBy id_cmp own.now }
+    ensures { IfOk result (λ others. AreOthers ids.now lacked.now own.now others.items) }
 {
     let mut others = Vec::new(alloc);
-    for id in ids {
-        if is_elsewhere(history, key, *id) {
-            others.push(*id)?;
-        }
-    }
+    push_lacking(&mut others, ids, own)?;
+    push_lacking(&mut others, lacked, own)?;
     Ok(others)
-}
-
-/// Whether an id is on the object of the version, and not its own.
-fn is_elsewhere(history: &History, key: &VersionKey, id: OpId) -> bool
-    ensures { IsTrue result ↔ IsElsewhere history.now.ops key.now id }
-{
-    is_on(history, key.object, id) && !has(key.ops.as_slice(), id)
-}
-
-/// Whether the history has an operation under this id, on the object.
-fn is_on(history: &History, object: ObjectId, id: OpId) -> bool
-    ensures { IsTrue result ↔ HasOn history.now.ops object id }
-{
-    // The clause of `ops` says that the history is valid.
-    let _ = history.ops();
-    match history.get(id) {
-        Some(op) => is_of(op, object),
-        None => false,
-    }
-}
-
-/// Whether an operation is on the object.
-fn is_of(op: &Op, object: ObjectId) -> bool
-    ensures { IsTrue result ↔ (object_of op.now ≡ object) }
-{
-    op.object() == object
-}
-
-/// Whether the id is one of the ids.
-fn has(ids: &[OpId], id: OpId) -> bool
-    ensures { IsTrue result ↔ Contains ids.now id }
-{
-    ids.contains(&id)
 }

@@ -27,8 +27,9 @@ use std::alloc::Global;
 /// The lines before what is known.
 const FIRST_LINES: &[u8] = b"#FIG 3.2\nLandscape\nCenter\nMetric\nA4\n100.00\nSingle\n-2\n";
 
-/// The named text of a history with these visible versions. Each version is compared with all
-/// operations of visible versions; else the time is linear in the length of the text.
+/// The named text of a history with these visible versions. Each version looks for others of its
+/// object, and its operations are compared with those of theirs that it lacks. Else the time is
+/// linear in the length of the text and the number of their operations.
 pub fn named_bytes(
     alloc: Global,
     history: &History,

@@ -1,21 +1,19 @@
 -- What a run makes of the history that its bytes denote (this project's choice).
-use Rattle.std.specs.Prelude.{◌≡◌, ◌<◌, ◌≤◌, ℕ, List, length, Option, ⊤}
+use Rattle.std.specs.Prelude.{◌≡◌, ℕ, List, length, Option, ⊤}
 use Rattle.gf_shape.specs.declared.any_shape.AnyShape.{AnyShape}
 use Rattle.gf_shape.specs.Outlines.{any_outline}
 use Rattle.gf_ops.specs.declared.op.ObjectId.{ObjectId}
 use Rattle.gf_ops.specs.declared.op.Op.{Op}
 use Rattle.gf_versions.specs.declared.ranking.TheConstants.{MOST_VERSIONS}
-use Rattle.gf_versions.specs.declared.placed.Placed.{Placed}
-use Rattle.gf_versions.specs.Ranking.{AreRanked}
 use Rattle.gf_figures.specs.DrawingState.{DrawingState}
 use Rattle.gf_figures.specs.Outlined.{outlined}
 use Rattle.gf_drawing.specs.declared.compiling.CompileFault.{CompileFault}
 use Rattle.gf_drawing.specs.declared.compiling.CompileFault.TheVariants as compile
-use Rattle.gf_drawing.specs.CanonicalDrawing.{IsCanonical, Paints, PaintsAsFig, colours_of}
+use Rattle.gf_drawing.specs.CanonicalDrawing.{IsCanonical, Paints, PaintsAsFig}
 use Rattle.gf_fig_read.specs.FigGrammar.{Reads}
 use Rattle.gf_fig_write.specs.FigText.{fig_text}
 use Rattle.gf_fig_write.specs.ShownHistory.{Shows}
-use Rattle.gf_fig_named.specs.NamedText.{IsNamedText}
+use Rattle.gf_fig_named.specs.NamedText.{HasMoreColours, IsNamedText}
 use Rattle.gf_fig_named.specs.ThinPolygons.{AreThinOf}
 use Rattle.gf_replay.specs.Denoting.{Denotes}
 use Rattle.gf_replay.specs.Waiting.{DenotesWaiting}
@@ -72,13 +70,6 @@ WritesNamed bytes old new = WritesText (IsNamedOf bytes) old new
 -- the bytes denote a history whose polygons that xfig does not keep have these objects
 abbrev pub HasThin : List ℕ → List ObjectId → Type 0
 HasThin bytes objects = DenotesSuch bytes (λ h. AreThinOf h objects)
-
--- h has at most 1,000 visible versions, of more than 512 distinct colours
-pub record HasMoreColours (h : List Op) : Type 0 where
-  pub items : List (Placed AnyShape)
-  pub ranked : AreRanked h items
-  pub few : length items ≤ MOST_VERSIONS
-  pub many : 512 < length (colours_of items)
 
 -- why h has no drawing; want of memory may come with any h
 abbrev pub RefusesHistory : List Op → CompileFault → Type 0

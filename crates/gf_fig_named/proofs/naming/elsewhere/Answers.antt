@@ -1,24 +1,26 @@
-use Rattle.gf_fig_named.specs.Others.{IsElsewhere}
-use Rattle.gf_fig_named.proofs.NameLemmas.{keeps_at, skips_at, all_seen}
+use Rattle.gf_fig_named.proofs.LackedLemmas.{all_lacked, at_index, itself_lacked, more_lacked}
 use Rattle.gf_fig_named.proofs.naming.elsewhere.Goals as goal
-use Rattle.gf_fig_named.proofs.naming.elsewhere.Goals.{then-is_elsewhere+in_ok-push}
-use Rattle.gf_fig_named.proofs.naming.elsewhere.Goals.{else-is_elsewhere}
+use Rattle.gf_fig_named.proofs.naming.elsewhere.Goals.{then-place-index+in_ok-push_lacked}
+use Rattle.gf_fig_named.proofs.naming.elsewhere.Goals.{else-place-index}
 
-pub loop-id-preserved : goal.loop-id-preserved
-loop-id-preserved c =
-    let P = IsElsewhere c.args.history.now.ops c.args.key.now in
-    elim c.if-is_elsewhere.branch [
-      | then-is_elsewhere+in_ok-push w ↦
-          rw w.others-is (keeps_at P c.args.ids.now c.loop-id.id-index _ c.loop-id-test.true
-          c.loop-id.others.items c.loop-id.invariant _ w.in_ok-push.ensures.items
-          (c.is_elsewhere.ensures.0 w.if-is_elsewhere.true))
-      | else-is_elsewhere w ↦
-          rw w.others-is (skips_at P c.args.ids.now c.loop-id.id-index _ c.loop-id-test.true
-          c.loop-id.others.items c.loop-id.invariant c.is_elsewhere.result c.is_elsewhere.ensures.1
-          w.if-is_elsewhere.false)
+pub loop-place-preserved : goal.loop-place-preserved
+loop-place-preserved c =
+    elim c.if-place-index.branch [
+      | then-place-index+in_ok-push_lacked w ↦
+          rw w.others-is (more_lacked c.args.item.now c.args.items.now c.loop-place.place
+          c.index-items-place.result c.loop-place-test.true c.index-items-place.is
+          c.loop-place.others.items c.loop-place.invariant w.push_lacked.new.out.items
+          w.in_ok-push_lacked.ensures)
+      | else-place-index w ↦
+          rw w.others-is (itself_lacked c.args.item.now c.args.items.now c.loop-place.place
+          c.index-items-place.result c.loop-place-test.true c.index-items-place.is
+          c.loop-place.others.items c.loop-place.invariant
+          (at_index c.args.items.now c.loop-place.place c.args.index c.index-items-place.result
+          c.args.item.now w.if-place-index.false c.loop-place-test.true c.index-items-place.is
+          c.requires.at))
     ]
 
 pub returns : goal.returns
 returns c =
-    all_seen (IsElsewhere c.args.history.now.ops c.args.key.now) c.args.ids.now c.loop-id.id-index
-    c.loop-id-test.false c.loop-id.others.items c.loop-id.invariant
+    all_lacked c.args.items.now c.loop-place.place c.loop-place-test.false c.args.item.now.key
+    c.loop-place.others.items c.loop-place.invariant
