@@ -1,9 +1,7 @@
 -- A history that looks like a drawing shows it, and takes it by no changes.
-use Rattle.std.proofs.Common.{◌≡◌, ℕ, List, [], ◌∷◌, ◌++◌, subst, sym}
-use Rattle.std.specs.Prelude.{All}
+use Rattle.std.proofs.Common.{ℕ, List, [], ◌∷◌, subst, sym}
 use Rattle.std.proofs.lemmas.List.{append-nil}
 use Rattle.gf_shape.specs.declared.outline.Outline.{Outline}
-use Rattle.gf_shape.specs.ShapeLaws.{IsLawful}
 use Rattle.gf_ops.specs.declared.op.Op.{Op}
 use Rattle.gf_ops.specs.Accepted.{AreAccepted}
 use Rattle.gf_ops.specs.ValidHistory.{IsValid}
@@ -13,7 +11,7 @@ use Rattle.gf_figures.specs.DrawingColour.{from_front}
 use Rattle.gf_figures.specs.DrawingState.{DrawingState}
 use Rattle.gf_drawing.specs.CanonicalDrawing.{PaintsAsFig}
 use Rattle.gf_site.specs.MadeEach.{none as makes_none}
-use Rattle.gf_take.specs.ShownDrawing.{IsReordered, LooksLike, ShowsDrawing, TakesOut, first, next}
+use Rattle.gf_take.specs.ShownDrawing.{IsReordered, LooksLike, ShowsDrawing, first, next}
 use Rattle.gf_take.specs.ShownDrawing.{none}
 use Rattle.gf_take.specs.Taking.{Takes}
 

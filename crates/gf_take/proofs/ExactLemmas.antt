@@ -31,7 +31,7 @@ use Rattle.gf_figures.specs.DrawingState.{DrawingState}
 use Rattle.gf_import.specs.Boxes.{are_corners, are_opposite, is_box, least_corner}
 use Rattle.gf_import.specs.Boxes.{point_at}
 use Rattle.gf_import.specs.Importing.{form_of, place_of}
-use Rattle.gf_take.specs.Matching.{AreShown, AreTraced, trace}
+use Rattle.gf_take.specs.Matching.{AreShown, AreTraced, IsTraced, trace}
 use Rattle.gf_take.specs.ShownDrawing.{Look, LooksLike, ShowsDrawing, look_at, look_of}
 use Rattle.gf_take.specs.ShownDrawing.{shape_become}
 use Rattle.gf_take.proofs.FrontLemmas.{All-front, All-reordered}
@@ -148,6 +148,18 @@ place_back (Chain ring) lawful = elim (cases_Bool (is_box ring)) [
   where
     open_place : is_box ring ≡ false → place_of (open_chain ring.points) ≡ place_of (Chain ring)
     open_place f = rw f refl
+
+-- a version that looks like what a lawful figure becomes is traced like the figure
+pub look_is_like : (table : Table) (i : Placed AnyShape) (f : Figure Outline) → IsLawful f.shape
+    → look_of table f ≡ look_at i → IsTraced table (any_outline i.shape) i.colour f
+look_is_like table i f lawful e = record {
+  alike = record {
+    form = ap (λ (l : Look). form_of (any_outline l.0)) (sym e) ∙ form_back f.shape lawful;
+    place = ap (λ (l : Look). place_of (any_outline l.0)) (sym e) ∙ place_back f.shape lawful;
+    lawful = lawful;
+  };
+  colour = ap (λ (l : Look). l.1) (sym e);
+}
 
 -- ---- lists
 

@@ -26,7 +26,7 @@ use Rattle.gf_site.specs.SiteState.{authored, clock_of}
 use Rattle.gf_site.proofs.CourseLemmas.{all_ready}
 use Rattle.gf_replay.specs.Denoting.{Delivers}
 use Rattle.gf_site.specs.MadeEach.{MakesEach, none as each_none, next as each_next}
-use Rattle.gf_take.specs.Bases.{AreRead, JoinsTake}
+use Rattle.gf_take.specs.Bases.{AreRead, IsBase, JoinsTake}
 use Rattle.gf_take.proofs.PartLemmas.{accepted_beyond, base_own, base_within}
 use Rattle.gf_take.proofs.AddedLemmas.{AreAdded, added_accepted, added_count, added_own}
 use Rattle.gf_take.proofs.AddedLemmas.{added_valid}
@@ -203,3 +203,12 @@ takes_join s c ops h b new all j =
     (made_beyond s h b valid j.read.accepted j.base.accepted (base_within s c h b valid j.base)
     (base_own s c h b valid j.base) j.changes new j.makes)
     all j.same
+
+-- what a site makes behind its base is accepted behind the history, too
+pub makes_accepted : (s : ℕ) (c : Clock) (h b : List Op) (changes : List Change) (new : List Op)
+    → IsValid h → AreAccepted h → IsBase s c h b → MakesEach s b changes new
+    → AreAccepted (h ++ new)
+makes_accepted s c h b changes new valid run base m =
+    added_accepted s h run new
+    (made_beyond s h b valid run base.accepted (base_within s c h b valid base)
+    (base_own s c h b valid base) changes new m)

@@ -3,7 +3,8 @@
 //!
 //! - [`reach`]: how far the operations reach that a designer saw.
 //! - [`base_site`]: a site that has what a designer saw, and all of its own.
-//! - [`looks_like`]: whether a site looks like a drawing, figure by figure.
+//! - [`looks_like`]: whether a site looks like a drawing, figure by figure;
+//!   [`version_looks_like`]: whether one version looks like one figure.
 //! - [`take`]: makes changes behind the base of a site, and answers their operations only where
 //!   the site then shows the drawing; [`TakeError`] tells why not.
 //! - [`what_shows_a_drawing_paints_it`], [`a_history_shows_its_own_drawing`]: the laws of the
@@ -25,4 +26,4 @@ pub use laws::{
     what_is_taken_joins_what_was_read, what_shows_a_drawing_paints_it,
 };
 pub use take_error::TakeError;
-pub use taking::{looks_like, take};
+pub use taking::{looks_like, take, version_looks_like};

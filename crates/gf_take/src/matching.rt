@@ -55,7 +55,7 @@ pub(crate) fn look_alike(
 }
 
 /// Whether a version looks like a figure of a drawing.
-fn is_like(
+pub(crate) fn is_like(
     alloc: Global,
     item: &Placed<AnyShape>,
     drawing: &Drawing<Outline>,

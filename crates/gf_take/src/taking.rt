@@ -6,14 +6,14 @@ ghost use Rattle.gf_ops.specs.ValidHistory.{IsValid};
 ghost use Rattle.gf_versions.specs.Ranking.{AreRanked};
 ghost use Rattle.gf_shape.specs.ShapeLaws.{IsLawful};
 ghost use Rattle.gf_drawing.specs.CanonicalDrawing.{PaintsAsFig};
-ghost use Rattle.gf_take.specs.ShownDrawing.{LooksLike, ShowsDrawing};
+ghost use Rattle.gf_take.specs.ShownDrawing.{LooksLike, ShowsDrawing, look_at, look_of};
 ghost use Rattle.gf_take.specs.Taking.{RefusesTake, Takes};
 ghost use Rattle.gf_take.specs.TakingSteps.{HasMade, MakesOne, RefusesAll, RefusesOne};
 ghost use Rattle.gf_take.specs.TakingSteps.{RefusesShowing};
 
 use crate::TakeError;
-use crate::matching::{look_alike, show_figures};
-use gf_figures::Drawing;
+use crate::matching::{is_like, look_alike, show_figures};
+use gf_figures::{Drawing, Figure};
 use gf_ops::{Change, Op};
 use gf_shape::{AnyShape, OutOfMemory, Outline};
 use gf_site::{AuthorFault, Site};
@@ -85,6 +85,19 @@ pub fn looks_like(
         → IfOk result (λ alike. alike ≡ false → ¬ (LooksLike h drawing.now)) }
 {
     Ok(look_alike(alloc, items, drawing)?)
+}
+
+/// Whether a version looks like a figure of a drawing: the answer is yes where it does.
+pub fn version_looks_like(
+    alloc: Global,
+    item: &Placed<AnyShape>,
+    drawing: &Drawing<Outline>,
+    figure: &Figure<Outline>,
+) -> Result<bool, OutOfMemory>
+    ensures { IsLawful figure.now.shape → look_of drawing.now.table figure.now ≡ look_at item.now
+        → IfOk result (λ like. like ≡ true) }
+{
+    Ok(is_like(alloc, item, drawing, figure)?)
 }
 
 /// Checks that a site shows a drawing.
