@@ -6,6 +6,9 @@ use gf_shape::OutOfMemory;
 use gf_versions::Version;
 use std::alloc::Global;
 
+/// The greatest number of operations in an aim.
+pub(crate) const MOST_AIMED: usize = 1_000;
+
 /// What tells a version from the other versions of its object in a list: operations of the version,
 /// rising by id.
 pub(crate) fn told_from(
@@ -79,10 +82,10 @@ fn without(alloc: Global, ids: &[OpId], left_out: OpId) -> Result<Vec<OpId>, Out
     Ok(rest)
 }
 
-/// Whether a list has all of these ids.
+/// Whether a list, rising by id, has all of these ids.
 pub(crate) fn has_all(list: &[OpId], ids: &[OpId]) -> bool {
     for id in ids {
-        if !list.contains(id) {
+        if list.binary_search(id).is_err() {
             return false;
         }
     }

@@ -1,16 +1,13 @@
 //! The changes of what stands in the drawing: places, sizes, points, colours, and what is hidden.
 
 use crate::Target;
-use crate::aiming::{aim_at, aim_to_keep, fewest, has_all, told_from};
+use crate::aiming::{MOST_AIMED, aim_at, aim_to_keep, fewest, has_all, told_from};
 use crate::comparing::{moved, points_from, size_of};
 use crate::matching::Matching;
 use gf_ops::{Attr, Change, Form, History, Ids, ObjectId, OpId, Start, Value};
 use gf_shape::{OutOfMemory, Point};
 use gf_versions::Version;
 use std::alloc::Global;
-
-/// The greatest number of operations in an aim.
-const MOST_AIMED: usize = 1_000;
 
 /// The changes by which the versions of a history that are figures look like these, and those that
 /// hide the others. Creations and layers are not among them.
@@ -241,7 +238,7 @@ fn hide_each(
 }
 
 /// The change that shows an object, or hides it, in the versions that have the aim.
-fn shown(object: ObjectId, shown: bool, aim: Ids) -> Change {
+pub(crate) fn shown(object: ObjectId, shown: bool, aim: Ids) -> Change {
     Change::Set {
         object,
         value: Value::Shown(shown),

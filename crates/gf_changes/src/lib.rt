@@ -6,6 +6,8 @@
 //! - [`versions_of`]: the versions that are shown.
 //! - [`matched`]: which version each figure is, as a [`Matching`]; [`first_beyond`]: the first figure
 //!   that comes to be something beyond the limits of operations.
+//! - [`object_not_shown`]: the hidden object that a figure names; [`showing_again`]: the change that
+//!   shows a hidden version which looks like the figure; [`has_change`]: whether it is there already.
 //! - [`alterations`]: the changes of versions to what their figures are, and those that hide others.
 //! - [`arranged`]: the changes of layers, and the new figures behind these.
 #![tactic(auto)]
@@ -16,11 +18,13 @@ mod arranging;
 mod comparing;
 mod matching;
 mod ordering;
+mod restoring;
 mod settled;
 mod target;
 
 pub use altering::alterations;
 pub use arranging::arranged;
 pub use matching::{Matching, first_beyond, matched};
+pub use restoring::{has_change, object_not_shown, showing_again};
 pub use settled::versions_of;
 pub use target::{Target, targets};

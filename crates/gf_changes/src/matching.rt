@@ -160,7 +160,7 @@ fn may_match(version: &Version, figure: &Target, seen: &Clock, pass: Pass) -> bo
 }
 
 /// Whether a name may be that of a version.
-fn is_named(version: &Version, name: &Named) -> bool {
+pub(crate) fn is_named(version: &Version, name: &Named) -> bool {
     version.key.object == name.name.object
         && has_all(version.key.ops.as_slice(), name.name.telling.as_slice())
 }

@@ -1,6 +1,6 @@
 //! What is to be shown: the figures of a drawing, with the names that they have.
 
-use gf_fig_named::Named;
+use gf_fig_named::{Name, Named};
 use gf_figures::Drawing;
 use gf_ops::Start;
 use gf_shape::{Bounds, OutOfMemory, Outline, Shape};
@@ -25,10 +25,9 @@ pub fn targets(
     alloc: Global,
     drawing: &Drawing<Outline>,
     starts: Vec<(Start, bool)>,
-    names: Vec<Option<Named>>,
+    names: &[Option<Named>],
 ) -> Result<Vec<Target>, OutOfMemory> {
     let mut rows = Vec::with_capacity(alloc, starts.len())?;
-    let mut names = names.into_iter();
     for (index, (start, is_within)) in starts.into_iter().enumerate() {
         if let Some(figure) = drawing.figures().get(index) {
             rows.push(Target {
@@ -36,7 +35,7 @@ pub fn targets(
                 is_within,
                 depth: figure.depth,
                 bounds: figure.shape.bounds(),
-                name: names.next().flatten(),
+                name: name_at(alloc, names, index)?,
                 index,
             })?;
         }
@@ -44,4 +43,22 @@ pub fn targets(
     rows.reverse();
     rows.sort_by_key(|row| row.depth)?;
     Ok(rows)
+}
+
+/// A copy of the name at an index, if there is one.
+fn name_at(
+    alloc: Global,
+    names: &[Option<Named>],
+    index: usize,
+) -> Result<Option<Named>, OutOfMemory> {
+    match names.get(index) {
+        Some(Some(named)) => Ok(Some(Named {
+            name: Name {
+                object: named.name.object,
+                telling: named.name.telling.copy(alloc)?,
+            },
+            depth: named.depth,
+        })),
+        Some(None) | None => Ok(None),
+    }
 }
