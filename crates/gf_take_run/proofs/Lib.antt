@@ -2,4 +2,6 @@ pub mod PartingLemmas
 pub mod SeenLemmas
 pub mod TakeLemmas
 pub mod CountingLemmas
+pub mod JoinedLemmas
+pub mod LeavingLemmas
 pub mod ShownLemmas

@@ -1,5 +1,6 @@
 -- What was read of operation lines, and what is written of operations.
-use Rattle.std.proofs.Common.{◌≡◌, ℕ, ◌+◌, ◌<◌, List, [], ◌∷◌, ◌++◌, length, get_or, take, refl}
+use Rattle.std.proofs.Common.{◌≡◌, ℕ, ◌+◌, ◌<◌, ◌≤◌, List, [], ◌∷◌, ◌++◌, length, get_or, take}
+use Rattle.std.proofs.Common.{refl}
 use Rattle.std.proofs.Common.{sym, ap, subst, ◌∙◌, inl, inr}
 use Rattle.std.specs.Prelude.{All, Err, IfErr, IfOk, IfSome, None, Ok, Option, Result, Some}
 use Rattle.std.proofs.lemmas.Grind.{flat_map-append}
@@ -50,7 +51,10 @@ use Rattle.std.proofs.lemmas.List.Elements.{All-nil}
 use Rattle.gf_take_run.specs.declared.drawing_error.DrawingError.{DrawingError}
 use Rattle.gf_take_run.specs.declared.drawing_error.DrawingError.TheVariants as error
 use Rattle.gf_take_run.specs.declared.making.MadeFrom.{MadeFrom}
-use Rattle.gf_take_run.specs.OnShown.{IsOnShown}
+use Rattle.gf_take_run.specs.ChangedObjects.{MayChange}
+use Rattle.gf_take_run.specs.LeftObjects.{LeavesStanding}
+use Rattle.gf_take_run.specs.declared.request.TakeRequest.{TakeRequest}
+use Rattle.gf_ops.specs.OperationOrder.{count_of}
 use Rattle.gf_take_run.specs.ToldNumbers.{CountsObjects, alters, creates, hides}
 use Rattle.gf_take_run.specs.declared.take_run_error.TakeRunError.{TakeRunError}
 use Rattle.gf_take_run.specs.declared.take_run_error.TakeRunError.TheVariants as refused
@@ -60,9 +64,11 @@ use Rattle.gf_take_run.specs.Parting.{IsParted}
 use Rattle.gf_take_run.specs.SeenDrawing.{AreThere, IsAbsent, IsNewer, since_drawing}
 use Rattle.gf_take_run.specs.TakenText.{DenotesDrawing, DenotesLines}
 use Rattle.gf_take_run.specs.TakeRun.{GoesBeyond, HasBase, HasBlockingLine, HasNewer, IsExhausted}
-use Rattle.gf_take_run.specs.TakeRun.{IsTakeOf, LooksOtherwise, ReadsBoth, ShowsMany}
+use Rattle.gf_take_run.specs.TakeRun.{IsBehind, IsTakeOf, LooksOtherwise, ReadsBoth, ShowsMany}
+use Rattle.gf_take_run.specs.TakeRun.{StaysWithin}
 use Rattle.gf_take_run.specs.TakeRun.{RefusesParts, RefusesTaking, TakesText, of_take, input, parts}
-use Rattle.gf_take_run.specs.TakeSteps.{AreWritten, MakesFrom, RefusesBase, RefusesDrawing}
+use Rattle.gf_take_run.specs.TakeSteps.{AreWritten, IsBeyondMost, IsWrittenText, MakesFrom}
+use Rattle.gf_take_run.specs.TakeSteps.{RefusesBase, RefusesDrawing}
 use Rattle.gf_take_run.specs.TakeSteps.{RefusesMaking, RefusesPlan, RefusesSeen, TakesFrom}
 use Rattle.gf_take_run.specs.TakeSteps.{TakesParts, TakesSo, told}
 
@@ -139,17 +145,17 @@ written_denotes new text w =
 -- ---- what is taken
 
 -- what is told with equal numbers and histories is told of the site
-pub takes_so : (s n m : ℕ) (h k : List Op) (drawing : Drawn) (seen : Clock) (t : TakenText)
-    (base new : List Op) → n ≡ s → m ≡ n → k ≡ h
-    → AreThere seen k → ((a x : Op) → ¬ (IsNewer n seen k a x)) → IsBase n seen k base
-    → TakesFrom m base drawing new → AreWritten new t.text.items → t.taken.made ≡ made_of new
+pub takes_so : (q : TakeRequest) (m : ℕ) (h k : List Op) (fig : List ℕ) (drawing : Drawn)
+    (seen : Clock) (t : TakenText) (base new : List Op) → m ≡ q.site → k ≡ h → AreThere seen k
+    → ((a x : Op) → ¬ (IsNewer q.site seen k a x)) → IsBase q.site seen k base
+    → TakesFrom m q.after base fig drawing new → IsWrittenText q.named k new t.text.items
+    → t.taken.made ≡ made_of new
     → CountsObjects alters new t.taken.changed → CountsObjects hides new t.taken.hidden
-    → CountsObjects creates new t.taken.drawn → t.taken.since ≡ since_drawing n seen k
-    → AreThinOf base t.taken.thin.items → TakesSo s h drawing seen t
-takes_so s n m h k drawing seen t base new ns mn kh there young is_base from written made
-    changed hidden drawn since thin =
-    subst (λ (l : List Op). TakesSo s l drawing seen t) kh
-    (subst (λ i. TakesSo i k drawing seen t) ns (record {
+    → CountsObjects creates new t.taken.drawn → t.taken.since ≡ since_drawing q.site seen k
+    → AreThinOf base t.taken.thin.items → TakesSo q h fig drawing seen t
+takes_so q m h k fig drawing seen t base new mn kh there young is_base from text made changed
+    hidden drawn since thin =
+    subst (λ (l : List Op). TakesSo q l fig drawing seen t) kh (record {
       new = new;
       taken = record {
         there = there;
@@ -158,17 +164,19 @@ takes_so s n m h k drawing seen t base new ns mn kh there young is_base from wri
         is_base = is_base;
         changes = from.changes;
         takes = subst (λ i. Takes i base from.changes new drawing) mn from.takes;
-        shown = from.shown;
+        may = from.may;
+        standing = from.standing;
         same = from.same;
       };
-      written = written;
+      within = subst (λ i. StaysWithin i q.after base new) mn from.within;
+      text = text;
       made = made;
       changed = changed;
       hidden = hidden;
       drawn = drawn;
       since = since;
       thin = thin;
-    }))
+    })
 
 -- of no changes no operations are made
 pub makes_none : {m : ℕ} {base : List Op} {changes : List Change} {new : List Op}
@@ -176,60 +184,84 @@ pub makes_none : {m : ℕ} {base : List Op} {changes : List Change} {new : List 
 makes_none each_none e = refl
 makes_none (each_next c in_range accepted more) e = absurd cc
 
+none_within : (s : ℕ) (after : Option ℕ) (b : List Op) → StaysWithin s after b []
+none_within s None b = tt
+none_within s (Some n) b = inr refl
+
+few_within : (s : ℕ) (after : Option ℕ) (b new : List Op) → IfSome after (λ n. count_of b s ≤ n)
+    → StaysWithin s after b new
+few_within s None b new few = tt
+few_within s (Some n) b new few = inl few
+
 -- what looks like the drawing takes it by nothing
-pub takes_nothing : (s : ℕ) (b : List Op) (text : List ℕ) (d : Drawn) (thin : List ObjectId)
-    (made : MadeFrom) → AreAccepted b → IsValid b → LooksLike b d → Reads text d
-    → made.ops.items ≡ [] → made.thin.items ≡ thin → AreThinOf b thin → MakesFrom s b d made
-takes_nothing s b text d thin made accepted valid like reads none is are = record {
-  taken = subst (TakesFrom s b d) (sym none) (record {
+pub takes_nothing : (s : ℕ) (after : Option ℕ) (b : List Op) (fig : List ℕ) (d : Drawn)
+    (thin : List ObjectId) (made : MadeFrom) → AreAccepted b → IsValid b → LooksLike b d
+    → Reads fig d → made.ops.items ≡ [] → made.thin.items ≡ thin → AreThinOf b thin
+    → MakesFrom s after b fig d made
+takes_nothing s after b fig d thin made accepted valid like reads none is are = record {
+  taken = subst (TakesFrom s after b fig d) (sym none) (record {
     changes = [];
     takes = like_takes s b d accepted valid like
-        (shown_paints b d (lawful_read text d reads) (like_shows b d like));
-    shown = All-nil (IsOnShown b);
+        (shown_paints b d (lawful_read fig d reads) (like_shows b d like));
+    may = All-nil (MayChange b fig);
+    standing = All-nil (LeavesStanding b fig d);
     same = λ l. refl;
+    within = none_within s after b;
   });
   thin = subst (AreThinOf b) (sym is) are;
 }
 
 -- what does not look like the drawing takes it by its changes
-pub takes_changes : (s : ℕ) (b : List Op) (d : Drawn) (changes : List Change)
-    (ops : List Op) (thin : List ObjectId) (made : MadeFrom) → ¬ (LooksLike b d)
-    → All (IsOnShown b) changes → Takes s b changes ops d → made.ops.items ≡ ops
-    → made.thin.items ≡ thin → AreThinOf b thin → MakesFrom s b d made
-takes_changes s b d changes ops thin made other shown takes is same are = record {
-  taken = subst (TakesFrom s b d) (sym is) (record {
-    changes = changes;
-    takes = takes;
-    shown = shown;
-    same = λ l. absurd (other l);
-  });
-  thin = subst (AreThinOf b) (sym same) are;
-}
+pub takes_changes : (s : ℕ) (after : Option ℕ) (b : List Op) (fig : List ℕ) (d : Drawn)
+    (changes : List Change) (ops : List Op) (thin : List ObjectId) (made : MadeFrom)
+    → ¬ (LooksLike b d) → IfSome after (λ n. count_of b s ≤ n) → All (MayChange b fig) changes
+    → All (LeavesStanding b fig d) changes → Takes s b changes ops d → made.ops.items ≡ ops
+    → made.thin.items ≡ thin → AreThinOf b thin → MakesFrom s after b fig d made
+takes_changes s after b fig d changes ops thin made other few may standing takes is same are =
+    record {
+      taken = subst (TakesFrom s after b fig d) (sym is) (record {
+        changes = changes;
+        takes = takes;
+        may = may;
+        standing = standing;
+        same = λ l. absurd (other l);
+        within = few_within s after b ops few;
+      });
+      thin = subst (AreThinOf b) (sym same) are;
+    }
+
+-- a site that has more operations than were asked for makes nothing
+pub behind_refuses : (s : ℕ) (after : Option ℕ) (b : List Op) (d : Drawn) (i : OpId)
+    → ¬ (LooksLike b d) → IsBeyondMost s after b i → IsBehind s after i b d
+behind_refuses s after b d i other f =
+    record { otherwise = other; most = f.most; asked = f.asked; more = f.more; last = f.last }
 
 -- why no changes are planned is why a base that looks otherwise makes nothing
-pub plan_refuses : (s : ℕ) (b : List Op) (fig : List ℕ) (d : Drawn) (e : DrawingError)
-    → ¬ (LooksLike b d) → RefusesPlan fig d e → RefusesBase s b fig d e
-plan_refuses s b fig d error.OutOfMemory other f = tt
-plan_refuses s b fig d error.Differs other f = other
-plan_refuses s b fig d (error.Figure broken) other f =
+pub plan_refuses : (s : ℕ) (after : Option ℕ) (b : List Op) (fig : List ℕ) (d : Drawn)
+    (e : DrawingError) → ¬ (LooksLike b d) → RefusesPlan fig d e → RefusesBase s after b fig d e
+plan_refuses s after b fig d error.OutOfMemory other f = tt
+plan_refuses s after b fig d error.Differs other f = other
+plan_refuses s after b fig d (error.Figure broken) other f =
     (record { otherwise = other; breaks = f.0 }, f.1)
-plan_refuses s b fig d error.TooManyFigures other f = absurd f
-plan_refuses s b fig d error.Exhausted other f = absurd f
-plan_refuses s b fig d (error.Absent i) other f = absurd f
-plan_refuses s b fig d (error.Older i j) other f = absurd f
+plan_refuses s after b fig d error.TooManyFigures other f = absurd f
+plan_refuses s after b fig d error.Exhausted other f = absurd f
+plan_refuses s after b fig d (error.Absent i) other f = absurd f
+plan_refuses s after b fig d (error.Older i j) other f = absurd f
+plan_refuses s after b fig d (error.Behind i) other f = absurd f
 
 -- why changes are not made is why a base that looks otherwise makes nothing
-pub making_refuses : (s : ℕ) (b : List Op) (fig : List ℕ) (d : Drawn) (changes : List Change)
-    (e : DrawingError) → ¬ (LooksLike b d) → RefusesMaking s b changes e
-    → RefusesBase s b fig d e
-making_refuses s b fig d changes error.OutOfMemory other f = tt
-making_refuses s b fig d changes error.Differs other f = other
-making_refuses s b fig d changes error.Exhausted other f =
+pub making_refuses : (s : ℕ) (after : Option ℕ) (b : List Op) (fig : List ℕ) (d : Drawn)
+    (changes : List Change) (e : DrawingError) → ¬ (LooksLike b d) → RefusesMaking s b changes e
+    → RefusesBase s after b fig d e
+making_refuses s after b fig d changes error.OutOfMemory other f = tt
+making_refuses s after b fig d changes error.Differs other f = other
+making_refuses s after b fig d changes error.Exhausted other f =
     record { otherwise = other; changes = changes; refused = f }
-making_refuses s b fig d changes (error.Figure broken) other f = absurd f
-making_refuses s b fig d changes error.TooManyFigures other f = absurd f
-making_refuses s b fig d changes (error.Absent i) other f = absurd f
-making_refuses s b fig d changes (error.Older i j) other f = absurd f
+making_refuses s after b fig d changes (error.Figure broken) other f = absurd f
+making_refuses s after b fig d changes error.TooManyFigures other f = absurd f
+making_refuses s after b fig d changes (error.Absent i) other f = absurd f
+making_refuses s after b fig d changes (error.Older i j) other f = absurd f
+making_refuses s after b fig d changes (error.Behind i) other f = absurd f
 
 -- why changes are refused by a site
 pub refusal_of : (s : ℕ) (b : List Op) (changes : List Change) (d : Drawn) (why : AuthorFault)
@@ -238,12 +270,13 @@ pub refusal_of : (s : ℕ) (b : List Op) (changes : List Change) (d : Drawn) (wh
 refusal_of s b changes d why f e = subst (HasRefusal s b changes) e f
 
 -- why the base makes nothing is why nothing is taken behind it
-base_refuses : (s : ℕ) (h base : List Op) (fig : List ℕ) (d : Drawn) (seen : Clock)
-    (e : DrawingError) → AreThere seen h → ((a x : Op) → ¬ (IsNewer s seen h a x))
-    → IsBase s seen h base → RefusesBase s base fig d e → RefusesDrawing s h fig d seen e
-base_refuses s h base fig d seen e there young is = cases e
+base_refuses : (q : TakeRequest) (h base : List Op) (fig : List ℕ) (d : Drawn) (seen : Clock)
+    (e : DrawingError) → AreThere seen h → ((a x : Op) → ¬ (IsNewer q.site seen h a x))
+    → IsBase q.site seen h base → RefusesBase q.site q.after base fig d e
+    → RefusesDrawing q h fig d seen e
+base_refuses q h base fig d seen e there young is = cases e
   where
-    from : (Such : List Op → Drawn → Type 0) → Such base d → HasBase s Such h d seen
+    from : (Such : List Op → Drawn → Type 0) → Such base d → HasBase q.site Such h d seen
     from Such such = record {
       there = there;
       young = young;
@@ -252,57 +285,57 @@ base_refuses s h base fig d seen e there young is = cases e
       such = such;
     }
 
-    cases : (e : DrawingError) → RefusesBase s base fig d e → RefusesDrawing s h fig d seen e
+    cases : (e : DrawingError) → RefusesBase q.site q.after base fig d e
+        → RefusesDrawing q h fig d seen e
     cases error.OutOfMemory f = tt
     cases error.TooManyFigures f = from ShowsMany f
     cases (error.Figure broken) f = (from (GoesBeyond broken.object broken.fault) f.0, f.1)
-    cases error.Exhausted f = from (IsExhausted s) f
+    cases (error.Behind i) f = from (IsBehind q.site q.after i) f
+    cases error.Exhausted f = from (IsExhausted q.site) f
     cases error.Differs f = from LooksOtherwise f
     cases (error.Absent i) f = absurd f
     cases (error.Older i j) f = absurd f
 
 -- why a site makes nothing is why another of its number and history takes nothing
-pub base_refused : (s n m : ℕ) (h k base : List Op) (fig : List ℕ) (d : Drawn) (seen : Clock)
-    (e : DrawingError) → n ≡ s → m ≡ n → k ≡ h → AreThere seen k
-    → ((a x : Op) → ¬ (IsNewer n seen k a x)) → IsBase n seen k base
-    → RefusesBase m base fig d e → RefusesDrawing s h fig d seen e
-base_refused s n m h k base fig d seen e ns mn kh there young is f =
-    subst (λ (l : List Op). RefusesDrawing s l fig d seen e) kh
-    (subst (λ i. RefusesDrawing i k fig d seen e) ns
-    (base_refuses n k base fig d seen e there young is
-    (subst (λ i. RefusesBase i base fig d e) mn f)))
+pub base_refused : (q : TakeRequest) (m : ℕ) (h k base : List Op) (fig : List ℕ) (d : Drawn)
+    (seen : Clock) (e : DrawingError) → m ≡ q.site → k ≡ h → AreThere seen k
+    → ((a x : Op) → ¬ (IsNewer q.site seen k a x)) → IsBase q.site seen k base
+    → RefusesBase m q.after base fig d e → RefusesDrawing q h fig d seen e
+base_refused q m h k base fig d seen e mn kh there young is f =
+    subst (λ (l : List Op). RefusesDrawing q l fig d seen e) kh
+    (base_refuses q k base fig d seen e there young is
+    (subst (λ i. RefusesBase i q.after base fig d e) mn f))
 
 -- why the drawing is refused for what it knew
-pub seen_refused : (s n : ℕ) (h k : List Op) (fig : List ℕ) (d : Drawn) (seen : Clock)
-    (e : DrawingError) → n ≡ s → k ≡ h → RefusesSeen n k seen e → RefusesDrawing s h fig d seen e
-seen_refused s n h k fig d seen e ns kh f =
-    subst (λ (l : List Op). RefusesDrawing s l fig d seen e) kh
-    (subst (λ i. RefusesDrawing i k fig d seen e) ns (cases e f))
+pub seen_refused : (q : TakeRequest) (h k : List Op) (fig : List ℕ) (d : Drawn) (seen : Clock)
+    (e : DrawingError) → k ≡ h → RefusesSeen q.site k seen e → RefusesDrawing q h fig d seen e
+seen_refused q h k fig d seen e kh f =
+    subst (λ (l : List Op). RefusesDrawing q l fig d seen e) kh (cases e f)
   where
-    cases : (e : DrawingError) → RefusesSeen n k seen e → RefusesDrawing n k fig d seen e
+    cases : (e : DrawingError) → RefusesSeen q.site k seen e → RefusesDrawing q k fig d seen e
     cases (error.Absent i) f = f
     cases (error.Older i j) f = f d
     cases error.OutOfMemory f = absurd f
     cases error.TooManyFigures f = absurd f
     cases (error.Figure broken) f = absurd f
+    cases (error.Behind i) f = absurd f
     cases error.Exhausted f = absurd f
     cases error.Differs f = absurd f
 
-module _ (s n : ℕ) (number : n ≡ s) (lines fig : List ℕ) (h : List Op)
-    (read : DenotesLines s lines h)
+module _ (q : TakeRequest) (lines fig : List ℕ) (h : List Op) (read : DenotesLines q.site lines h)
     (drawing : Drawn) (seen : Clock) (drawn : DenotesDrawing fig drawing seen) where
-  pub parts_taken : (t : TakenText) → TakesSo n h drawing seen t → TakesParts s lines fig t
+  pub parts_taken : (t : TakenText) → TakesSo q h fig drawing seen t → TakesParts q lines fig t
   parts_taken t p = record {
     history = h;
     read = read;
     drawing = drawing;
     seen = seen;
     drawn = drawn;
-    takes = subst (λ i. TakesSo i h drawing seen t) number p;
+    takes = p;
   }
 
   both : (Such : List Op → Drawn → Clock → Type 0) → Such h drawing seen
-      → ReadsBoth s lines fig Such
+      → ReadsBoth q.site lines fig Such
   both Such such = record {
     history = h;
     read = read;
@@ -312,20 +345,17 @@ module _ (s n : ℕ) (number : n ≡ s) (lines fig : List ℕ) (h : List Op)
     such = such;
   }
 
-  refuses_own : (e : DrawingError) → RefusesDrawing s h fig drawing seen e
-      → RefusesParts s lines fig (told e)
-  refuses_own (error.Absent i) f = both (λ h drawing seen. IsAbsent seen h i) f
-  refuses_own (error.Older i j) f = both (HasNewer s i j) f
-  refuses_own error.TooManyFigures f = inr (both (HasBase s ShowsMany) f)
-  refuses_own (error.Figure broken) f =
-      (both (HasBase s (GoesBeyond broken.object broken.fault)) f.0, f.1)
-  refuses_own error.Exhausted f = both (HasBase s (IsExhausted s)) f
-  refuses_own error.Differs f = both (HasBase s LooksOtherwise) f
-  refuses_own error.OutOfMemory f = tt
-
-  pub parts_refused : (e : DrawingError) → RefusesDrawing n h fig drawing seen e
-      → RefusesParts s lines fig (told e)
-  parts_refused e p = refuses_own e (subst (λ i. RefusesDrawing i h fig drawing seen e) number p)
+  pub parts_refused : (e : DrawingError) → RefusesDrawing q h fig drawing seen e
+      → RefusesParts q lines fig (told e)
+  parts_refused (error.Absent i) f = both (λ h drawing seen. IsAbsent seen h i) f
+  parts_refused (error.Older i j) f = both (HasNewer q.site i j) f
+  parts_refused error.TooManyFigures f = inr (both (HasBase q.site ShowsMany) f)
+  parts_refused (error.Figure broken) f =
+      (both (HasBase q.site (GoesBeyond broken.object broken.fault)) f.0, f.1)
+  parts_refused (error.Behind i) f = both (HasBase q.site (IsBehind q.site q.after i)) f
+  parts_refused error.Exhausted f = both (HasBase q.site (IsExhausted q.site)) f
+  parts_refused error.Differs f = both (HasBase q.site LooksOtherwise) f
+  parts_refused error.OutOfMemory f = tt
 
 -- why a drawing is not taken comes between the last read and the first write
 pub told_between : (e : DrawingError) → IfSome (of_take (told e)) IsBetween
@@ -334,14 +364,15 @@ told_between (error.Absent i) = tt
 told_between (error.Older i j) = tt
 told_between error.TooManyFigures = tt
 told_between (error.Figure broken) = tt
+told_between (error.Behind i) = tt
 told_between error.Exhausted = tt
 told_between error.Differs = tt
 
 -- ---- the whole text
 
-module _ (s : ℕ) (bytes lines fig : List ℕ) (parted : IsParted bytes lines fig) where
-  pub text_taken : (r : Result TakenText TakeRunError) → IfOk r (TakesParts s lines fig)
-      → IfOk r (λ t. TakesText s bytes t.text.items t.taken)
+module _ (q : TakeRequest) (bytes lines fig : List ℕ) (parted : IsParted bytes lines fig) where
+  pub text_taken : (r : Result TakenText TakeRunError) → IfOk r (TakesParts q lines fig)
+      → IfOk r (λ t. TakesText q bytes t.text.items t.taken)
   text_taken (Err e) p = tt
   text_taken (Ok t) p = record {
     new = p.takes.new;
@@ -356,8 +387,13 @@ module _ (s : ℕ) (bytes lines fig : List ℕ) (parted : IsParted bytes lines f
       drawn = p.drawn;
       taken = p.takes.taken;
     };
-    is = p.takes.written.is;
-    denotes = written_denotes p.takes.new t.text.items p.takes.written;
+    within = p.takes.within;
+    lines = p.takes.text.lines;
+    written = p.takes.text.written.is;
+    denotes = written_denotes p.takes.new p.takes.text.lines p.takes.text.written;
+    shown = p.takes.text.shown;
+    shows = p.takes.text.shows;
+    is = p.takes.text.is;
     made = p.takes.made;
     changed = p.takes.changed;
     hidden = p.takes.hidden;
@@ -366,26 +402,26 @@ module _ (s : ℕ) (bytes lines fig : List ℕ) (parted : IsParted bytes lines f
     thin = p.takes.thin;
   }
 
-  pub text_refused : (r : Result TakenText TakeRunError) → IfErr r (RefusesParts s lines fig)
-      → IfErr r (RefusesTaking s bytes)
+  pub text_refused : (r : Result TakenText TakeRunError) → IfErr r (RefusesParts q lines fig)
+      → IfErr r (RefusesTaking q bytes)
   text_refused (Ok t) p = tt
   text_refused (Err e) p =
       parts (record { lines = lines; fig = fig; parted = parted; refused = p })
 
 -- ---- the run
 
-pub run_refuses : {X : Type 0} (s : ℕ) (left : Option (List ℕ)) (items : List ℕ)
-    (r : Result X TakeRunError) → IfSome left (λ all. items ≡ all) → IfErr r (RefusesTaking s items)
-    → IfErr r (λ e. IfSome left (λ bytes. RefusesTaking s bytes e))
-run_refuses s (Some bytes) items (Err e) is f = subst (λ b. RefusesTaking s b e) is f
-run_refuses s None items (Err e) is f = tt
-run_refuses s left items (Ok x) is f = tt
+pub run_refuses : {X : Type 0} (q : TakeRequest) (left : Option (List ℕ)) (items : List ℕ)
+    (r : Result X TakeRunError) → IfSome left (λ all. items ≡ all) → IfErr r (RefusesTaking q items)
+    → IfErr r (λ e. IfSome left (λ bytes. RefusesTaking q bytes e))
+run_refuses q (Some bytes) items (Err e) is f = subst (λ b. RefusesTaking q b e) is f
+run_refuses q None items (Err e) is f = tt
+run_refuses q left items (Ok x) is f = tt
 
 -- an input that did not come refuses the run
-pub input_refuses : (s : ℕ) (left : Option (List ℕ)) (fault : StudioError) → IsOfInput fault
-    → IfSome left (λ bytes. RefusesTaking s bytes (refused.Run fault))
-input_refuses s None fault f = tt
-input_refuses s (Some bytes) fault f = input fault refl (of_run fault f)
+pub input_refuses : (q : TakeRequest) (left : Option (List ℕ)) (fault : StudioError)
+    → IsOfInput fault → IfSome left (λ bytes. RefusesTaking q bytes (refused.Run fault))
+input_refuses q None fault f = tt
+input_refuses q (Some bytes) fault f = input fault refl (of_run fault f)
   where
     of_run : (fault : StudioError) → IsOfInput fault → IsOfRun fault
     of_run studio.OutOfMemory f = tt
@@ -399,9 +435,9 @@ input_refuses s (Some bytes) fault f = input fault refl (of_run fault f)
     of_run (studio.NoObject o) f = absurd f
 
 -- what was written before the sink failed is a prefix of what is taken
-pub cut_take : (s : ℕ) (left old new : Option (List ℕ)) (text : List ℕ) (taken : Taken)
-    → IfSome left (λ bytes. TakesText s bytes text taken) → AppendsPrefix old new text
-    → IfSome left (λ bytes. WritesPrefix (IsTakeOf s bytes) old new)
-cut_take s None old new text taken t p = tt
-cut_take s (Some bytes) old new text taken t p =
+pub cut_take : (q : TakeRequest) (left old new : Option (List ℕ)) (text : List ℕ) (taken : Taken)
+    → IfSome left (λ bytes. TakesText q bytes text taken) → AppendsPrefix old new text
+    → IfSome left (λ bytes. WritesPrefix (IsTakeOf q bytes) old new)
+cut_take q None old new text taken t p = tt
+cut_take q (Some bytes) old new text taken t p =
     record { text = text; is = (taken, t); written = p }

@@ -1,7 +1,10 @@
 pub mod Parting
 pub mod PartingSteps
 pub mod SeenDrawing
-pub mod OnShown
+pub mod ChangedObjects
+pub mod LeftObjects
+pub mod ShownText
+pub mod LeavingSteps
 pub mod ShownItems
 pub mod ToldNumbers
 pub mod CountedChanges

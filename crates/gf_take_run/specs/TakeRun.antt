@@ -1,11 +1,14 @@
 -- What the run of a take writes, and why it is refused (this project's choice).
-use Rattle.std.specs.Prelude.{◌≡◌, ◌⊎◌, ◌<◌, ◌≤◌, ℕ, ◌+◌, List, Option, None, Some, length}
+use Rattle.std.specs.Prelude.{◌≡◌, ◌⊎◌, ◌<◌, ◌≤◌, ℕ, ◌+◌, List, [], ◌++◌, Option, None, Some}
+use Rattle.std.specs.Prelude.{length}
+use Rattle.std.specs.Prelude.{IfSome}
 use Rattle.std.specs.Prelude.{slice_get}
 use Rattle.gf_shape.specs.declared.outline.Outline.{Outline}
 use Rattle.gf_streams.specs.TextLines.{numbered_lines}
 use Rattle.gf_ops.specs.declared.op.Op.{Op}
 use Rattle.gf_ops.specs.declared.op.OpId.{OpId}
 use Rattle.gf_ops.specs.declared.op.Clock.{Clock}
+use Rattle.gf_ops.specs.OperationOrder.{count_of}
 use Rattle.gf_ops.specs.declared.change.Change.{Change}
 use Rattle.gf_causal.specs.Waiting.{waits_for}
 use Rattle.gf_replay.specs.Denoting.{AreLinesOf}
@@ -34,33 +37,45 @@ use Rattle.gf_take.specs.Taking.{HasRefusal}
 use Rattle.gf_take_run.specs.declared.take_run_error.TakeRunError.{TakeRunError}
 use Rattle.gf_take_run.specs.declared.take_run_error.TakeRunError.TheVariants as refused
 use Rattle.gf_take_run.specs.declared.taken.Taken.{Taken}
+use Rattle.gf_take_run.specs.declared.request.TakeRequest.{TakeRequest}
+use Rattle.gf_take_run.specs.ShownText.{IsShownText}
 use Rattle.gf_take_run.specs.Parting.{BeginsFig, IsParted}
 use Rattle.gf_take_run.specs.SeenDrawing.{AreThere, IsAbsent, IsNewer, since_drawing}
 use Rattle.gf_take_run.specs.TakenText.{DenotesDrawing, DenotesLines, DenotesTake}
 use Rattle.gf_take_run.specs.ToldNumbers.{CountsObjects, alters, creates, hides}
 
--- the text has the lines of the new operations that site s takes of the bytes, and denotes these.
--- Their first and last are told, how many objects they change, hide and create, and what the site
--- made since the drawing was written. So are the polygons of its base that xfig does not keep
-pub record TakesText (s : ℕ) (bytes text : List ℕ) (taken : Taken) : Type 0 where
+-- the base has at most so many operations of site s, or nothing new is made
+abbrev pub StaysWithin : ℕ → Option ℕ → List Op → List Op → Type 0
+StaysWithin s after base new = IfSome after (λ n. (count_of base s ≤ n) ⊎ (new ≡ []))
+
+-- the text has the lines of the new operations that the site takes of the bytes, which denote
+-- these, and behind them the named text of all, where it was asked for. Their first and last are
+-- told, how many objects they change, hide and create, and what the site made since the drawing was
+-- written. So are the polygons of its base that xfig does not keep
+pub record TakesText (q : TakeRequest) (bytes text : List ℕ) (taken : Taken) : Type 0 where
   pub new : List Op
-  pub denoted : DenotesTake s bytes new
-  pub is : text ≡ written_lines new
-  pub denotes : AreLinesOf (numbered_lines text) new
+  pub denoted : DenotesTake q.site bytes new
+  pub within : StaysWithin q.site q.after denoted.taken.base new
+  pub lines : List ℕ
+  pub written : lines ≡ written_lines new
+  pub denotes : AreLinesOf (numbered_lines lines) new
+  pub shown : List ℕ
+  pub shows : IsShownText q.named (denoted.history ++ new) shown
+  pub is : text ≡ lines ++ shown
   pub made : taken.made ≡ made_of new
   pub changed : CountsObjects alters new taken.changed
   pub hidden : CountsObjects hides new taken.hidden
   pub drawn : CountsObjects creates new taken.drawn
-  pub since : taken.since ≡ since_drawing s denoted.seen denoted.history
+  pub since : taken.since ≡ since_drawing q.site denoted.seen denoted.history
   pub thin : AreThinOf denoted.taken.base taken.thin.items
 
 -- known bytes grow from old to new by the lines of what is taken, which is told
-abbrev pub WritesTake : ℕ → List ℕ → Taken → Option (List ℕ) → Option (List ℕ) → Type 0
-WritesTake s bytes taken old new = WritesText (λ text. TakesText s bytes text taken) old new
+abbrev pub WritesTake : TakeRequest → List ℕ → Taken → Option (List ℕ) → Option (List ℕ) → Type 0
+WritesTake q bytes taken old new = WritesText (λ text. TakesText q bytes text taken) old new
 
 -- the text has the lines of what is taken
-abbrev pub IsTakeOf : ℕ → List ℕ → List ℕ → Type 0
-IsTakeOf s bytes text = (taken : Taken) × TakesText s bytes text taken
+abbrev pub IsTakeOf : TakeRequest → List ℕ → List ℕ → Type 0
+IsTakeOf q bytes text = (taken : Taken) × TakesText q bytes text taken
 
 -- of the operations that block site s, i has the least id, and waits for j
 pub record HasBlockingLine (s : ℕ) (lines : List ℕ) (i j : OpId) : Type 0 where
@@ -138,6 +153,16 @@ pub record IsExhausted (s : ℕ) (base : List Op) (drawing : Drawn) : Type 0 whe
   pub changes : List Change
   pub refused : HasRefusal s base changes author.Exhausted
 
+-- the base does not look like the drawing, and has more operations of site s than were asked for,
+-- of which i is the last
+pub record IsBehind (s : ℕ) (after : Option ℕ) (i : OpId) (base : List Op) (drawing : Drawn)
+    : Type 0 where
+  pub otherwise : LooksOtherwise base drawing
+  pub most : ℕ
+  pub asked : after ≡ Some most
+  pub more : most < count_of base s
+  pub last : i ≡ record { site = s; seq = count_of base s }
+
 -- an operation of the site under the id i knows one of another site under j, and the drawing did
 -- not
 pub record HasNewer (s : ℕ) (i j : OpId) (h : List Op) (drawing : Drawn) (seen : Clock)
@@ -149,36 +174,40 @@ pub record HasNewer (s : ℕ) (i j : OpId) (h : List Op) (drawing : Drawn) (seen
   pub names : j ≡ known.id
 
 -- why nothing is taken of these operation lines and this FIG text; want of memory may come with any
-abbrev pub RefusesParts : ℕ → List ℕ → List ℕ → TakeRunError → Type 0
-RefusesParts s lines fig (refused.Run e) = RefusesReading lines e
-RefusesParts s lines fig (refused.Waits i j) = HasBlockingLine s lines i j
-RefusesParts s lines fig (refused.Fig faults) = ReadsLines s lines
+abbrev pub RefusesParts : TakeRequest → List ℕ → List ℕ → TakeRunError → Type 0
+RefusesParts q lines fig (refused.Run e) = RefusesReading lines e
+RefusesParts q lines fig (refused.Waits i j) = HasBlockingLine q.site lines i j
+RefusesParts q lines fig (refused.Fig faults) = ReadsLines q.site lines
     (λ h. HasFirst fig faults × AreFaults most_told None fig faults)
-RefusesParts s lines fig refused.TooManyFigures = ReadsLines s lines (λ h. HasManyFigures fig)
-    ⊎ ReadsBoth s lines fig (HasBase s ShowsMany)
-RefusesParts s lines fig refused.Unnamed = ReadsLines s lines (λ h. IsUnnamed fig)
-RefusesParts s lines fig (refused.Absent i) =
-    ReadsBoth s lines fig (λ h drawing seen. IsAbsent seen h i)
-RefusesParts s lines fig (refused.Older i j) = ReadsBoth s lines fig (HasNewer s i j)
-RefusesParts s lines fig (refused.Figure broken) =
-    ReadsBoth s lines fig (HasBase s (GoesBeyond broken.object broken.fault))
+RefusesParts q lines fig refused.TooManyFigures = ReadsLines q.site lines (λ h. HasManyFigures fig)
+    ⊎ ReadsBoth q.site lines fig (HasBase q.site ShowsMany)
+RefusesParts q lines fig refused.Unnamed = ReadsLines q.site lines (λ h. IsUnnamed fig)
+RefusesParts q lines fig (refused.Absent i) =
+    ReadsBoth q.site lines fig (λ h drawing seen. IsAbsent seen h i)
+RefusesParts q lines fig (refused.Older i j) = ReadsBoth q.site lines fig (HasNewer q.site i j)
+RefusesParts q lines fig (refused.Figure broken) =
+    ReadsBoth q.site lines fig (HasBase q.site (GoesBeyond broken.object broken.fault))
     × BeginsOn fig broken.object broken.line
-RefusesParts s lines fig refused.Exhausted = ReadsBoth s lines fig (HasBase s (IsExhausted s))
-RefusesParts s lines fig refused.Differs = ReadsBoth s lines fig (HasBase s LooksOtherwise)
-RefusesParts s lines fig refused.NoDrawing = ⊥
+RefusesParts q lines fig (refused.Behind i) =
+    ReadsBoth q.site lines fig (HasBase q.site (IsBehind q.site q.after i))
+RefusesParts q lines fig refused.Exhausted =
+    ReadsBoth q.site lines fig (HasBase q.site (IsExhausted q.site))
+RefusesParts q lines fig refused.Differs =
+    ReadsBoth q.site lines fig (HasBase q.site LooksOtherwise)
+RefusesParts q lines fig refused.NoDrawing = ⊥
 
 -- the bytes are these two parts, and nothing is taken of them
-pub record RefusesParted (s : ℕ) (bytes : List ℕ) (e : TakeRunError) : Type 0 where
+pub record RefusesParted (q : TakeRequest) (bytes : List ℕ) (e : TakeRunError) : Type 0 where
   pub lines : List ℕ
   pub fig : List ℕ
   pub parted : IsParted bytes lines fig
-  pub refused : RefusesParts s lines fig e
+  pub refused : RefusesParts q lines fig e
 
 -- why nothing is taken of the bytes
-pub data RefusesTaking (s : ℕ) (bytes : List ℕ) (e : TakeRunError) : Type 0 where
-  no_drawing : e ≡ refused.NoDrawing → ((n : ℕ) → ¬ (BeginsFig bytes n)) → RefusesTaking s bytes e
-  parts : RefusesParted s bytes e → RefusesTaking s bytes e
-  input : (fault : StudioError) → e ≡ refused.Run fault → IsOfRun fault → RefusesTaking s bytes e
+pub data RefusesTaking (q : TakeRequest) (bytes : List ℕ) (e : TakeRunError) : Type 0 where
+  no_drawing : e ≡ refused.NoDrawing → ((n : ℕ) → ¬ (BeginsFig bytes n)) → RefusesTaking q bytes e
+  parts : RefusesParted q bytes e → RefusesTaking q bytes e
+  input : (fault : StudioError) → e ≡ refused.Run fault → IsOfRun fault → RefusesTaking q bytes e
 
 -- the error of a take that other runs may have too
 abbrev pub of_take : TakeRunError → Option StudioError

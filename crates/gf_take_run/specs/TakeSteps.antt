@@ -1,10 +1,11 @@
 -- What a take makes of what was read. No public clause cites this module.
-use Rattle.std.specs.Prelude.{◌≡◌, ◌≢◌, ◌<◌, ℕ, List, [], All, Contains, Ok, ⊤}
+use Rattle.std.specs.Prelude.{◌≡◌, ◌≢◌, ◌<◌, ℕ, Bool, List, [], ◌++◌, All, Contains, Ok, Option}
+use Rattle.std.specs.Prelude.{Some, ⊤}
 use Rattle.gf_ops.specs.declared.op.Op.{Op}
 use Rattle.gf_ops.specs.declared.op.OpId.{OpId}
 use Rattle.gf_ops.specs.declared.op.Clock.{Clock}
 use Rattle.gf_ops.specs.declared.change.Change.{Change}
-use Rattle.gf_ops.specs.OperationOrder.{IsSite, entry}
+use Rattle.gf_ops.specs.OperationOrder.{IsSite, count_of, entry}
 use Rattle.gf_json.specs.OperationLines.{denoted}
 use Rattle.gf_json.specs.WrittenLines.{op_text}
 use Rattle.gf_fig_named.specs.ThinPolygons.{AreThinOf}
@@ -20,7 +21,10 @@ use Rattle.gf_take_run.specs.declared.drawing_error.DrawingError.{DrawingError}
 use Rattle.gf_take_run.specs.declared.drawing_error.DrawingError.TheVariants as error
 use Rattle.gf_take_run.specs.declared.counting.Numbers.{Numbers}
 use Rattle.gf_take_run.specs.declared.making.MadeFrom.{MadeFrom}
-use Rattle.gf_take_run.specs.OnShown.{IsOnShown}
+use Rattle.gf_take_run.specs.ChangedObjects.{MayChange}
+use Rattle.gf_take_run.specs.LeftObjects.{LeavesStanding}
+use Rattle.gf_take_run.specs.ShownText.{IsShownText}
+use Rattle.gf_take_run.specs.declared.request.TakeRequest.{TakeRequest}
 use Rattle.gf_take_run.specs.ToldNumbers.{CountsObjects, alters, creates, hides}
 use Rattle.gf_take_run.specs.declared.take_run_error.TakeRunError.{TakeRunError}
 use Rattle.gf_take_run.specs.declared.take_run_error.TakeRunError.TheVariants as refused
@@ -28,24 +32,37 @@ use Rattle.gf_take_run.specs.declared.taking.TakenText.{TakenText}
 use Rattle.gf_take_run.specs.SeenDrawing.{IsAbsent, IsNewer, since_drawing}
 use Rattle.gf_take_run.specs.TakenText.{DenotesDrawing, DenotesLines, TakesDrawing}
 use Rattle.gf_take_run.specs.TakeRun.{BreaksLimit, GoesBeyond, HasBase, HasNewer, IsExhausted}
-use Rattle.gf_take_run.specs.TakeRun.{LooksOtherwise, ShowsMany}
+use Rattle.gf_take_run.specs.TakeRun.{IsBehind, LooksOtherwise, ShowsMany, StaysWithin}
 
 -- the text has the lines of operations, each of which is read again
 pub record AreWritten (new : List Op) (text : List ℕ) : Type 0 where
   pub is : text ≡ written_lines new
   pub reads : (a : Op) → Contains new a → denoted (op_text a) ≡ Ok a
 
--- site s makes new operations behind its base b, each of an object that b shows, and shows the
--- drawing. It makes none where b looks like the drawing
-pub record TakesFrom (s : ℕ) (b : List Op) (drawing : Drawn) (new : List Op) : Type 0 where
+-- the text has the lines of operations, and behind them what is shown of h with these
+pub record IsWrittenText (named : Bool) (h new : List Op) (text : List ℕ) : Type 0 where
+  pub lines : List ℕ
+  pub written : AreWritten new lines
+  pub shown : List ℕ
+  pub shows : IsShownText named (h ++ new) shown
+  pub is : text ≡ lines ++ shown
+
+-- site s makes new operations behind its base b, each of an object that b shows or the text names,
+-- and shows the drawing. It makes none where b looks like the drawing, or has more than so many of
+-- the site
+pub record TakesFrom (s : ℕ) (after : Option ℕ) (b : List Op) (fig : List ℕ) (drawing : Drawn)
+    (new : List Op) : Type 0 where
   pub changes : List Change
   pub takes : Takes s b changes new drawing
-  pub shown : All (IsOnShown b) changes
+  pub may : All (MayChange b fig) changes
+  pub standing : All (LeavesStanding b fig drawing) changes
   pub same : LooksLike b drawing → new ≡ []
+  pub within : StaysWithin s after b new
 
 -- what is made of a drawing, and the polygons of the base b that xfig does not keep
-pub record MakesFrom (s : ℕ) (b : List Op) (drawing : Drawn) (made : MadeFrom) : Type 0 where
-  pub taken : TakesFrom s b drawing made.ops.items
+pub record MakesFrom (s : ℕ) (after : Option ℕ) (b : List Op) (fig : List ℕ) (drawing : Drawn)
+    (made : MadeFrom) : Type 0 where
+  pub taken : TakesFrom s after b fig drawing made.ops.items
   pub thin : AreThinOf b made.thin.items
 
 -- the operations are counted
@@ -54,41 +71,54 @@ pub record AreCounted (new : List Op) (numbers : Numbers) : Type 0 where
   pub hidden : CountsObjects hides new numbers.hidden
   pub drawn : CountsObjects creates new numbers.drawn
 
--- site s takes operations of the drawing behind what it knew of h, and they are written and told
-pub record TakesSo (s : ℕ) (h : List Op) (drawing : Drawn) (seen : Clock) (t : TakenText)
-    : Type 0 where
+-- the site takes operations of the drawing behind what it knew of h, and they are written and told
+pub record TakesSo (q : TakeRequest) (h : List Op) (fig : List ℕ) (drawing : Drawn) (seen : Clock)
+    (t : TakenText) : Type 0 where
   pub new : List Op
-  pub taken : TakesDrawing s h drawing seen new
-  pub written : AreWritten new t.text.items
+  pub taken : TakesDrawing q.site h fig drawing seen new
+  pub within : StaysWithin q.site q.after taken.base new
+  pub text : IsWrittenText q.named h new t.text.items
   pub made : t.taken.made ≡ made_of new
   pub changed : CountsObjects alters new t.taken.changed
   pub hidden : CountsObjects hides new t.taken.hidden
   pub drawn : CountsObjects creates new t.taken.drawn
-  pub since : t.taken.since ≡ since_drawing s seen h
+  pub since : t.taken.since ≡ since_drawing q.site seen h
   pub thin : AreThinOf taken.base t.taken.thin.items
 
 -- why site s makes nothing of the drawing behind its base
-abbrev pub RefusesBase : ℕ → List Op → List ℕ → Drawn → DrawingError → Type 0
-RefusesBase s b fig drawing error.OutOfMemory = ⊤
-RefusesBase s b fig drawing error.TooManyFigures = ShowsMany b drawing
-RefusesBase s b fig drawing (error.Figure broken) =
+abbrev pub RefusesBase : ℕ → Option ℕ → List Op → List ℕ → Drawn → DrawingError → Type 0
+RefusesBase s after b fig drawing error.OutOfMemory = ⊤
+RefusesBase s after b fig drawing error.TooManyFigures = ShowsMany b drawing
+RefusesBase s after b fig drawing (error.Figure broken) =
     GoesBeyond broken.object broken.fault b drawing × BeginsOn fig broken.object broken.line
-RefusesBase s b fig drawing error.Exhausted = IsExhausted s b drawing
-RefusesBase s b fig drawing error.Differs = LooksOtherwise b drawing
-RefusesBase s b fig drawing (error.Absent i) = ⊥
-RefusesBase s b fig drawing (error.Older i j) = ⊥
+RefusesBase s after b fig drawing error.Exhausted = IsExhausted s b drawing
+RefusesBase s after b fig drawing error.Differs = LooksOtherwise b drawing
+RefusesBase s after b fig drawing (error.Absent i) = ⊥
+RefusesBase s after b fig drawing (error.Older i j) = ⊥
+RefusesBase s after b fig drawing (error.Behind i) = IsBehind s after i b drawing
 
--- why site s takes nothing of the drawing, which reads so
-abbrev pub RefusesDrawing : ℕ → List Op → List ℕ → Drawn → Clock → DrawingError → Type 0
-RefusesDrawing s h fig drawing seen error.OutOfMemory = ⊤
-RefusesDrawing s h fig drawing seen (error.Absent i) = IsAbsent seen h i
-RefusesDrawing s h fig drawing seen (error.Older i j) = HasNewer s i j h drawing seen
-RefusesDrawing s h fig drawing seen error.TooManyFigures = HasBase s ShowsMany h drawing seen
-RefusesDrawing s h fig drawing seen (error.Figure broken) =
-    HasBase s (GoesBeyond broken.object broken.fault) h drawing seen
+-- why the site takes nothing of the drawing, which reads so
+abbrev pub RefusesDrawing : TakeRequest → List Op → List ℕ → Drawn → Clock → DrawingError → Type 0
+RefusesDrawing q h fig drawing seen error.OutOfMemory = ⊤
+RefusesDrawing q h fig drawing seen (error.Absent i) = IsAbsent seen h i
+RefusesDrawing q h fig drawing seen (error.Older i j) = HasNewer q.site i j h drawing seen
+RefusesDrawing q h fig drawing seen error.TooManyFigures = HasBase q.site ShowsMany h drawing seen
+RefusesDrawing q h fig drawing seen (error.Figure broken) =
+    HasBase q.site (GoesBeyond broken.object broken.fault) h drawing seen
     × BeginsOn fig broken.object broken.line
-RefusesDrawing s h fig drawing seen error.Exhausted = HasBase s (IsExhausted s) h drawing seen
-RefusesDrawing s h fig drawing seen error.Differs = HasBase s LooksOtherwise h drawing seen
+RefusesDrawing q h fig drawing seen (error.Behind i) =
+    HasBase q.site (IsBehind q.site q.after i) h drawing seen
+RefusesDrawing q h fig drawing seen error.Exhausted =
+    HasBase q.site (IsExhausted q.site) h drawing seen
+RefusesDrawing q h fig drawing seen error.Differs =
+    HasBase q.site LooksOtherwise h drawing seen
+
+-- i is the last operation of site s in the base, of which there are more than so many
+pub record IsBeyondMost (s : ℕ) (after : Option ℕ) (base : List Op) (i : OpId) : Type 0 where
+  pub most : ℕ
+  pub asked : after ≡ Some most
+  pub more : most < count_of base s
+  pub last : i ≡ record { site = s; seq = count_of base s }
 
 -- why no changes are planned, where the base does not look like the drawing
 abbrev pub RefusesPlan : List ℕ → Drawn → DrawingError → Type 0
@@ -112,6 +142,7 @@ told (error.Absent i) = refused.Absent i
 told (error.Older i j) = refused.Older i j
 told error.TooManyFigures = refused.TooManyFigures
 told (error.Figure broken) = refused.Figure broken
+told (error.Behind i) = refused.Behind i
 told error.Exhausted = refused.Exhausted
 told error.Differs = refused.Differs
 
@@ -135,11 +166,11 @@ pub record IsBeyond (s : ℕ) (past known : Clock) (i : OpId) : Type 0 where
   pub last : i.seq ≡ entry past i.site
   pub fewer : entry known i.site < i.seq
 
--- the lines and the FIG text were read, and site s takes of them what is written and told
-pub record TakesParts (s : ℕ) (lines fig : List ℕ) (t : TakenText) : Type 0 where
+-- the lines and the FIG text were read, and the site takes of them what is written and told
+pub record TakesParts (q : TakeRequest) (lines fig : List ℕ) (t : TakenText) : Type 0 where
   pub history : List Op
-  pub read : DenotesLines s lines history
+  pub read : DenotesLines q.site lines history
   pub drawing : Drawn
   pub seen : Clock
   pub drawn : DenotesDrawing fig drawing seen
-  pub takes : TakesSo s history drawing seen t
+  pub takes : TakesSo q history fig drawing seen t

@@ -15,7 +15,8 @@ use Rattle.gf_take.specs.Bases.{AreRead, IsBase}
 use Rattle.gf_take.specs.ShownDrawing.{LooksLike}
 use Rattle.gf_take.specs.Taking.{Takes}
 use Rattle.gf_take_run.specs.Parting.{IsParted}
-use Rattle.gf_take_run.specs.OnShown.{IsOnShown}
+use Rattle.gf_take_run.specs.ChangedObjects.{MayChange}
+use Rattle.gf_take_run.specs.LeftObjects.{LeavesStanding}
 use Rattle.gf_take_run.specs.SeenDrawing.{AreThere, IsNewer}
 
 -- the lines denote operations, which deliver the history, and none blocks site s
@@ -24,8 +25,8 @@ pub record DenotesLines (s : ℕ) (lines : List ℕ) (history : List Op) : Type 
   pub denoted : AreLinesOf (numbered_lines lines) ops
   pub read : AreRead s ops history
 
--- the FIG text reads as the drawing, of at most 1,000 figures, and tells that it knew the operations
--- that the clock counts
+-- the FIG text reads as the drawing, of at most 1,000 figures, and tells that it knew the
+-- operations that the clock counts
 pub record DenotesDrawing (fig : List ℕ) (drawing : Drawn) (seen : Clock) : Type 0 where
   pub reads : Reads fig drawing
   pub few : length drawing.figures ≤ MOST_VERSIONS
@@ -33,16 +34,18 @@ pub record DenotesDrawing (fig : List ℕ) (drawing : Drawn) (seen : Clock) : Ty
 
 -- site s makes the new operations behind the base of what the drawing knew of the history. All that
 -- the drawing knew is there, and no operation of the site knows more of others. Each change is of
--- an object that the base shows, or creates one. None is made where the base looks like the drawing
-pub record TakesDrawing (s : ℕ) (history : List Op) (drawing : Drawn) (seen : Clock)
-    (new : List Op) : Type 0 where
+-- an object that the base shows, or that the text names, or creates one. An object that stands in
+-- the drawing gets nothing but layers. None is made where the base looks like the drawing
+pub record TakesDrawing (s : ℕ) (history : List Op) (fig : List ℕ) (drawing : Drawn)
+    (seen : Clock) (new : List Op) : Type 0 where
   pub there : AreThere seen history
   pub young : (a x : Op) → ¬ (IsNewer s seen history a x)
   pub base : List Op
   pub is_base : IsBase s seen history base
   pub changes : List Change
   pub takes : Takes s base changes new drawing
-  pub shown : All (IsOnShown base) changes
+  pub may : All (MayChange base fig) changes
+  pub standing : All (LeavesStanding base fig drawing) changes
   pub same : LooksLike base drawing → new ≡ []
 
 -- the bytes are operation lines and a FIG text behind them, of which site s takes new operations
@@ -55,7 +58,7 @@ pub record DenotesTake (s : ℕ) (bytes : List ℕ) (new : List Op) : Type 0 whe
   pub drawing : Drawn
   pub seen : Clock
   pub drawn : DenotesDrawing fig drawing seen
-  pub taken : TakesDrawing s history drawing seen new
+  pub taken : TakesDrawing s history fig drawing seen new
 
 -- the lines of these bytes denote what the take read and what it made, in whatever order and
 -- however often

@@ -1,7 +1,7 @@
 //! The run of a take: from operation lines and a FIG text that was changed elsewhere to the lines
 //! of one site's new operations, which show what the text shows.
 //!
-//! - [`take_run`]: reads both, and writes the new operations.
+//! - [`take_run`]: reads both, and writes the new operations, as a [`TakeRequest`] asks.
 //! - [`Taken`]: what is told of them.
 //! - [`TakeRunError`]: why nothing is taken; [`BrokenLimit`]: the figure that no operation can
 //!   make.
@@ -12,10 +12,13 @@ mod broken_limit;
 mod counting;
 mod drawing_error;
 mod laws;
+mod leaving;
 mod making;
+mod naming;
 mod parting;
 mod planning;
 mod reading;
+mod request;
 mod run;
 mod seeing;
 mod showing;
@@ -25,6 +28,7 @@ mod taking;
 
 pub use broken_limit::BrokenLimit;
 pub use laws::what_a_take_writes_joins_what_it_read;
+pub use request::TakeRequest;
 pub use run::take_run;
 pub use take_run_error::TakeRunError;
 pub use taken::Taken;

@@ -1,13 +1,15 @@
 //! The operation lines and the drawing that a take reads.
 
 ghost use Rattle.std.specs.Prelude.{◌≡◌, ◌≤◌, ℕ, List, IfErr, IfOk, IfSome};
+ghost use Rattle.gf_fig_named.specs.NamedFigures.{AreNamed};
 ghost use Rattle.gf_ops.specs.declared.op.Op.{Op};
 ghost use Rattle.gf_ops.specs.OperationOrder.{IsSite};
 ghost use Rattle.gf_run.specs.RefusedRuns.{IsBetween};
 ghost use Rattle.gf_take_run.specs.TakenText.{DenotesDrawing, DenotesLines};
 ghost use Rattle.gf_take_run.specs.TakeRun.{RefusesParts, of_take};
+ghost use Rattle.gf_take_run.specs.declared.request.TakeRequest.{TakeRequest};
 
-use crate::TakeRunError;
+use crate::{TakeRequest, TakeRunError};
 use gf_changes::{Target, targets};
 use gf_edit::{EditError, check_waiting};
 use gf_fig_faults::drawing_faults;
@@ -29,14 +31,13 @@ pub(crate) fn read_lines<T: Threads + Sync>(
     rt: &T,
     alloc: Global,
     lines: Vec<u8>,
-    site: u8,
+    request: TakeRequest,
     workers: u8,
 ) -> Result<Site<History>, TakeRunError>
-    requires site { IsSite site }
+    requires site { IsSite request.site }
     requires workers { (1 ≤ workers) × (workers ≤ 16) }
-    ensures ok { IfOk result (λ x. DenotesLines site lines.items x.ops) }
-    ensures number { IfOk result (λ x. x.number ≡ site) }
-    ensures refused { (fig : List ℕ) → IfErr result (RefusesParts site lines.items fig) }
+    ensures ok { IfOk result (λ x. DenotesLines request.site lines.items x.ops) }
+    ensures refused { (fig : List ℕ) → IfErr result (RefusesParts request lines.items fig) }
     ensures between { IfErr result (λ e. IfSome (of_take e) IsBetween) }
 {
     let replica = match read_replica(rt, alloc, lines, workers) {
@@ -45,7 +46,7 @@ pub(crate) fn read_lines<T: Threads + Sync>(
     };
     // The clause of `history` says that each operation was accepted.
     let _ = replica.history();
-    let taker = Site::with_replica(alloc, site, replica);
+    let taker = Site::with_replica(alloc, request.site, replica);
     match check_waiting(alloc, &taker) {
         Ok(()) => Ok(taker),
         Err(EditError::Waits(id, other)) => Err(TakeRunError::Waits(id, other)),
@@ -59,6 +60,8 @@ pub(crate) fn read_lines<T: Threads + Sync>(
 #[derive(Drop)]
 pub(crate) struct ReadDrawing {
     pub(crate) drawing: Drawing<Outline>,
+    /// What the comments above each figure name, in file order.
+    pub(crate) names: Vec<Option<Named>>,
     pub(crate) targets: Vec<Target>,
     pub(crate) seen: Clock,
 }
@@ -66,8 +69,9 @@ pub(crate) struct ReadDrawing {
 /// The drawing that a FIG text reads as, with the names of its figures.
 pub(crate) fn read_drawing(alloc: Global, fig: &[u8]) -> Result<ReadDrawing, TakeRunError>
     ensures ok { IfOk result (λ read. DenotesDrawing fig.now read.drawing read.seen) }
-    ensures refused { (s : ℕ) (lines : List ℕ) (h : List Op) → DenotesLines s lines h
-        → IfErr result (RefusesParts s lines fig.now) }
+    ensures named { IfOk result (λ read. AreNamed fig.now read.drawing read.names.items) }
+    ensures refused { (q : TakeRequest) (lines : List ℕ) (h : List Op)
+        → DenotesLines q.site lines h → IfErr result (RefusesParts q lines fig.now) }
     ensures between { IfErr result (λ e. IfSome (of_take e) IsBetween) }
 {
     let drawing = match read_fig(alloc, fig) {
@@ -81,9 +85,10 @@ pub(crate) fn read_drawing(alloc: Global, fig: &[u8]) -> Result<ReadDrawing, Tak
     let Some(seen) = names.known else {
         return Err(TakeRunError::Unnamed);
     };
-    let targets = targets_of(alloc, &drawing, names.figures)?;
+    let targets = targets_of(alloc, &drawing, &names.figures)?;
     Ok(ReadDrawing {
         drawing,
+        names: names.figures,
         targets,
         seen,
     })
@@ -93,7 +98,7 @@ pub(crate) fn read_drawing(alloc: Global, fig: &[u8]) -> Result<ReadDrawing, Tak
 fn targets_of(
     alloc: Global,
     drawing: &Drawing<Outline>,
-    names: Vec<Option<Named>>,
+    names: &[Option<Named>],
 ) -> Result<Vec<Target>, OutOfMemory> {
     let mut starts = Vec::with_capacity(alloc, drawing.figures().len())?;
     for figure in drawing.figures() {
@@ -106,8 +111,8 @@ fn targets_of(
 
 /// Why a FIG text that can't be read is not taken.
 fn fig_refusal(alloc: Global, fig: &[u8]) -> TakeRunError
-    ensures refused { (s : ℕ) (lines : List ℕ) (h : List Op) → DenotesLines s lines h
-        → RefusesParts s lines fig.now result }
+    ensures refused { (q : TakeRequest) (lines : List ℕ) (h : List Op)
+        → DenotesLines q.site lines h → RefusesParts q lines fig.now result }
     ensures between { IfSome (of_take result) IsBetween }
 {
     match drawing_faults(alloc, fig) {

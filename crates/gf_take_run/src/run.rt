@@ -8,7 +8,7 @@ ghost use Rattle.gf_take_run.specs.TakeRun.{IsTakeOf, RefusesTaking, TakesText, 
 ghost use Rattle.gf_take_run.specs.TakeRun.{of_take};
 
 use crate::taking::{TakenText, take_text};
-use crate::{TakeRunError, Taken};
+use crate::{TakeRequest, TakeRunError, Taken};
 use gf_run::{StudioError, input};
 use gf_streams::{Sink, SinkFault, Source, write_whole};
 use std::alloc::Global;
@@ -16,35 +16,36 @@ use std::thread::Threads;
 
 /// Reads operation lines of any sites, and behind them a FIG text that was written with names and
 /// changed since. This site makes operations behind what the text knew, so that it shows the text's
-/// drawing, and their lines are written. The lines are read by 1 to 16 workers. All is read, made
-/// and checked before the first write.
+/// drawing, and their lines are written; behind them, where it is asked for, the named text of all
+/// operations. The lines are read by 1 to 16 workers. All is read, made and checked before the
+/// first write.
 pub fn take_run<T: Threads + Sync, R: Source, W: Sink>(
     rt: &T,
     alloc: Global,
     source: &mut R,
     sink: &mut W,
-    site: u8,
+    request: TakeRequest,
     workers: u8,
 ) -> Result<Taken, TakeRunError>
-    requires site { IsSite site }
+    requires site { IsSite request.site }
     requires workers { (1 ≤ workers) × (workers ≤ 16) }
 
     // The lines of the new operations are written, and the answer tells of them. What the drawing
     // knew and these are a history that has at every point of the grid the drawing's colour.
     ensures takes { IfOk result (λ taken. IfSome (R.left source.old) (λ bytes.
-        WritesTake site bytes taken (W.taken sink.old) (W.taken sink.new))) }
+        WritesTake request bytes taken (W.taken sink.old) (W.taken sink.new))) }
 
     // The same as `edit_run` promises. In place of a command, the error says what is wrong with the
     // drawing.
     ensures source { ReadsInputBy R.Source source.old source.new of_take result }
     ensures refused { IfErr result (λ e. IfSome (R.left source.old) (λ bytes.
-        RefusesTaking site bytes e)) }
+        RefusesTaking request bytes e)) }
 
     // At most a prefix of the text is written, and that only where the sink failed.
-    ensures sink { LeavesSinkBy W.Sink (R.left source.old) (IsTakeOf site) sink.old sink.new
+    ensures sink { LeavesSinkBy W.Sink (R.left source.old) (IsTakeOf request) sink.old sink.new
         of_take result }
 {
-    let taken = take_source(rt, alloc, source, site, workers)?;
+    let taken = take_source(rt, alloc, source, request, workers)?;
     match write_whole(sink, &taken.text) {
         Ok(()) => Ok(taken.taken),
         Err(SinkFault) => Err(TakeRunError::Run(StudioError::WriteFailed)),
@@ -56,21 +57,21 @@ fn take_source<T: Threads + Sync, R: Source>(
     rt: &T,
     alloc: Global,
     source: &mut R,
-    site: u8,
+    request: TakeRequest,
     workers: u8,
 ) -> Result<TakenText, TakeRunError>
-    requires site { IsSite site }
+    requires site { IsSite request.site }
     requires workers { (1 ≤ workers) × (workers ≤ 16) }
     ensures ok { IfOk result (λ t. IfSome (R.left source.old) (λ bytes.
-        TakesText site bytes t.text.items t.taken)) }
+        TakesText request bytes t.text.items t.taken)) }
     ensures source { ReadsInputBy R.Source source.old source.new of_take result }
     ensures refused { IfErr result (λ e. IfSome (R.left source.old) (λ bytes.
-        RefusesTaking site bytes e)) }
+        RefusesTaking request bytes e)) }
     ensures no_write { IfErr result (λ e. of_take e ≢ Some StudioError.WriteFailed) }
 {
     let bytes = match input(alloc, source) {
         Ok(bytes) => bytes,
         Err(fault) => return Err(TakeRunError::Run(fault)),
     };
-    take_text(rt, alloc, bytes, site, workers)
+    take_text(rt, alloc, bytes, request, workers)
 }

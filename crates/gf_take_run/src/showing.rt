@@ -1,18 +1,21 @@
 //! What a site shows, and what xfig does not keep of it.
 
-ghost use Rattle.std.specs.Prelude.{◌≡◌, ◌↔◌, ℕ, All, Contains, IfErr, IfOk, IsTrue, List, true};
+ghost use Rattle.std.specs.Prelude.{◌≡◌, ◌↔◌, ◌++◌, ℕ, All, Contains, IfErr, IfOk, IsTrue, List};
+ghost use Rattle.std.specs.Prelude.{Option, codes, true};
 ghost use Rattle.gf_ops.specs.declared.op.Op.{Op};
 ghost use Rattle.gf_versions.specs.Ranking.{AreRanked};
 ghost use Rattle.gf_fig_named.specs.ThinPolygons.{AreThinOf};
 ghost use Rattle.gf_fig_read.specs.Objects.{Drawn};
-ghost use Rattle.gf_take_run.specs.OnShown.{IsOnShown};
-ghost use Rattle.gf_take_run.specs.ShownItems.{IsOnItem, IsOnOne};
+ghost use Rattle.gf_take_run.specs.ChangedObjects.{MayChange};
+ghost use Rattle.gf_take_run.specs.ChangedObjects.{NamesObject, name_begins};
+ghost use Rattle.gf_take_run.specs.ShownItems.{HasLine, IsOnItem, IsOnOne};
 ghost use Rattle.gf_take_run.specs.TakeSteps.{RefusesBase};
 
 use crate::drawing_error::DrawingError;
 use gf_fig_named::thin_polygons;
-use gf_ops::{Change, ObjectId};
-use gf_shape::AnyShape;
+use gf_fig_tokens::cut_line;
+use gf_ops::{Change, ObjectId, push_id};
+use gf_shape::{AnyShape, OutOfMemory};
 use gf_site::Site;
 use gf_versions::{MOST_VERSIONS, Placed};
 use gf_visible::ranked_within;
@@ -30,8 +33,8 @@ pub(crate) struct Shown {
 pub(crate) fn shown_by(alloc: Global, base: &Site) -> Result<Shown, DrawingError>
     ensures versions { IfOk result (λ shown. AreRanked base.now.ops shown.versions.items) }
     ensures thin { IfOk result (λ shown. AreThinOf base.now.ops shown.thin.items) }
-    ensures refused { (fig : List ℕ) (d : Drawn) → IfErr result
-        (RefusesBase base.now.number base.now.ops fig d) }
+    ensures refused { (after : Option ℕ) (fig : List ℕ) (d : Drawn) → IfErr result
+        (RefusesBase base.now.number after base.now.ops fig d) }
 {
     match ranked_within(alloc, &base.versions(), MOST_VERSIONS)? {
         None => Err(DrawingError::TooManyFigures),
@@ -45,26 +48,43 @@ pub(crate) fn shown_by(alloc: Global, base: &Site) -> Result<Shown, DrawingError
     }
 }
 
-/// Whether each change creates an object, or is of one that has a version among these.
-pub(crate) fn are_on_shown(changes: &[Change], shown: &[Placed<AnyShape>]) -> bool
-    ensures { (h : List Op) → AreRanked h shown.now → IsTrue result
-        → All (IsOnShown h) changes.now }
+/// Whether each change creates an object, or is of one that has a version among these, or that the
+/// text names.
+pub(crate) fn are_on_shown(
+    alloc: Global,
+    fig: &[u8],
+    changes: &[Change],
+    shown: &[Placed<AnyShape>],
+) -> Result<bool, OutOfMemory>
+    ensures { (h : List Op) → AreRanked h shown.now → IfOk result (λ on. on ≡ true
+        → All (MayChange h fig.now) changes.now) }
 {
     for change in changes {
-        if !is_on_shown(change, shown) {
-            return false;
+        if !is_on_shown(alloc, fig, change, shown)? {
+            return Ok(false);
         }
     }
-    true
+    Ok(true)
 }
 
-/// Whether a change creates an object, or is of one that has a version among these.
-fn is_on_shown(change: &Change, shown: &[Placed<AnyShape>]) -> bool
-    ensures { IsTrue result → IsOnOne shown.now change.now }
+/// Whether a change creates an object, or is of one that has a version among these, or that the
+/// text names.
+fn is_on_shown(
+    alloc: Global,
+    fig: &[u8],
+    change: &Change,
+    shown: &[Placed<AnyShape>],
+) -> Result<bool, OutOfMemory>
+    ensures { IfOk result (λ on. on ≡ true → IsOnOne shown.now fig.now change.now) }
 {
     match change {
-        Change::Create(_) => true,
-        Change::Set { object, .. } => has_version(shown, *object),
+        Change::Create(_) => Ok(true),
+        Change::Set { object, .. } => {
+            if has_version(shown, *object) {
+                return Ok(true);
+            }
+            names_object(alloc, fig, *object)
+        }
     }
 }
 
@@ -81,8 +101,40 @@ fn has_version(shown: &[Placed<AnyShape>], object: ObjectId) -> bool
 }
 
 /// Whether a version is one of an object.
-fn is_of(item: &Placed<AnyShape>, object: ObjectId) -> bool
+pub(crate) fn is_of(item: &Placed<AnyShape>, object: ObjectId) -> bool
     ensures { IsTrue result ↔ (item.now.key.object ≡ object) }
 {
     item.key.object == object
+}
+
+/// Whether a line of a text names an object.
+fn names_object(alloc: Global, fig: &[u8], object: ObjectId) -> Result<bool, OutOfMemory>
+    ensures { IfOk result (λ named. named ≡ true → NamesObject fig.now object) }
+{
+    let begins = name_begins(alloc, object)?;
+    Ok(has_line(fig, &begins))
+}
+
+/// How the line begins that names a figure of an object.
+fn name_begins(alloc: Global, object: ObjectId) -> Result<Vec<u8>, OutOfMemory>
+    ensures { IfOk result (λ text. text.items ≡ name_begins object) }
+{
+    let mut text = Vec::from_slice(alloc, b"# figgroup ")?;
+    push_id(&mut text, object.0)?;
+    text.extend_from_slice(b" at ")?;
+    Ok(text)
+}
+
+/// Whether a line of a text begins so.
+fn has_line(fig: &[u8], begins: &[u8]) -> bool
+    ensures { IsTrue result → HasLine fig.now begins.now }
+{
+    let mut rest = fig;
+    while let Some((line, after)) = cut_line(rest) {
+        if line.starts_with(begins) {
+            return true;
+        }
+        rest = after;
+    }
+    false
 }

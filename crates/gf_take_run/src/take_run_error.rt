@@ -42,6 +42,9 @@ pub enum TakeRunError {
     /// of another site, which the drawing did not know.
     #[error("drawing older than operation {0}, which knows {1}: open the drawing anew")]
     Older(OpId, OpId),
+    /// The site has made more operations than the request allows, of which this is the last.
+    #[error("operation {0} was made meanwhile: open the drawing anew")]
+    Behind(OpId),
     /// The site has made 10,000 operations.
     #[error("Exhausted")]
     Exhausted,

@@ -1,6 +1,8 @@
 //! From the bytes of a text to the lines of what is taken.
 
-ghost use Rattle.std.specs.Prelude.{◌≡◌, ◌≤◌, Contains, IfErr, IfOk, IfSome};
+ghost use Rattle.std.specs.Prelude.{◌≡◌, ◌≤◌, ◌++◌, Contains, IfErr, IfOk, IfSome};
+ghost use Rattle.gf_ops.specs.Accepted.{AreAccepted};
+ghost use Rattle.gf_fig_named.specs.NamedFigures.{AreNamed};
 ghost use Rattle.gf_ops.specs.Limits.{IsInRange};
 ghost use Rattle.gf_ops.specs.OperationOrder.{IsSite};
 ghost use Rattle.gf_run.specs.RefusedRuns.{IsBetween};
@@ -8,15 +10,18 @@ ghost use Rattle.gf_edit.specs.MadeOperations.{made_of, made_until};
 ghost use Rattle.gf_ops.specs.declared.op.Op.{Op};
 ghost use Rattle.gf_take_run.specs.TakenText.{DenotesDrawing};
 ghost use Rattle.gf_take_run.specs.TakeRun.{RefusesParts, RefusesTaking, TakesText, of_take};
-ghost use Rattle.gf_take_run.specs.TakeSteps.{AreWritten, RefusesDrawing, TakesParts, TakesSo};
+ghost use Rattle.gf_take_run.specs.TakeSteps.{AreWritten, IsWrittenText, RefusesDrawing};
+ghost use Rattle.gf_take_run.specs.TakeSteps.{TakesParts};
+ghost use Rattle.gf_take_run.specs.TakeSteps.{TakesSo};
 
 use crate::counting::numbers_of;
 use crate::drawing_error::DrawingError;
 use crate::making::make_from;
+use crate::naming::text_with;
 use crate::parting::{Parts, part};
 use crate::reading::{ReadDrawing, read_drawing, read_lines};
 use crate::seeing::{check_age, check_known, made_since};
-use crate::{TakeRunError, Taken};
+use crate::{TakeRequest, TakeRunError, Taken};
 use gf_edit::{Made, push_line};
 use gf_ops::{History, Op, OpId};
 use gf_shape::OutOfMemory;
@@ -37,20 +42,20 @@ pub(crate) fn take_text<T: Threads + Sync>(
     rt: &T,
     alloc: Global,
     bytes: Vec<u8>,
-    site: u8,
+    request: TakeRequest,
     workers: u8,
 ) -> Result<TakenText, TakeRunError>
-    requires site { IsSite site }
+    requires site { IsSite request.site }
     requires workers { (1 ≤ workers) × (workers ≤ 16) }
-    ensures ok { IfOk result (λ t. TakesText site bytes.items t.text.items t.taken) }
-    ensures refused { IfErr result (RefusesTaking site bytes.items) }
+    ensures ok { IfOk result (λ t. TakesText request bytes.items t.text.items t.taken) }
+    ensures refused { IfErr result (RefusesTaking request bytes.items) }
     ensures between { IfErr result (λ e. IfSome (of_take e) IsBetween) }
 {
     let parts = part(alloc, bytes)?;
     let Some(parts) = parts else {
         return Err(TakeRunError::NoDrawing);
     };
-    take_parts(rt, alloc, parts, site, workers)
+    take_parts(rt, alloc, parts, request, workers)
 }
 
 /// What a site takes of operation lines and the FIG text behind them.
@@ -58,18 +63,18 @@ fn take_parts<T: Threads + Sync>(
     rt: &T,
     alloc: Global,
     parts: Parts,
-    site: u8,
+    request: TakeRequest,
     workers: u8,
 ) -> Result<TakenText, TakeRunError>
-    requires site { IsSite site }
+    requires site { IsSite request.site }
     requires workers { (1 ≤ workers) × (workers ≤ 16) }
-    ensures ok { IfOk result (TakesParts site parts.lines.items parts.fig.items) }
-    ensures refused { IfErr result (RefusesParts site parts.lines.items parts.fig.items) }
+    ensures ok { IfOk result (TakesParts request parts.lines.items parts.fig.items) }
+    ensures refused { IfErr result (RefusesParts request parts.lines.items parts.fig.items) }
     ensures between { IfErr result (λ e. IfSome (of_take e) IsBetween) }
 {
-    let taker = read_lines(rt, alloc, parts.lines, site, workers)?;
+    let taker = read_lines(rt, alloc, parts.lines, request, workers)?;
     let drawn = read_drawing(alloc, &parts.fig)?;
-    Ok(take_drawing(alloc, &taker, &parts.fig, &drawn)?)
+    Ok(take_drawing(alloc, &taker, &parts.fig, &drawn, request)?)
 }
 
 /// What a site takes of a drawing.
@@ -78,21 +83,25 @@ fn take_drawing(
     taker: &Site<History>,
     fig: &[u8],
     drawn: &ReadDrawing,
+    request: TakeRequest,
 ) -> Result<TakenText, DrawingError>
-    requires { DenotesDrawing fig.now drawn.now.drawing drawn.now.seen }
-    ensures ok { IfOk result
-        (TakesSo taker.now.number taker.now.ops drawn.now.drawing drawn.now.seen) }
-    ensures refused { IfErr result (RefusesDrawing taker.now.number taker.now.ops fig.now
+    requires site { IsSite request.site }
+    requires drawn { DenotesDrawing fig.now drawn.now.drawing drawn.now.seen }
+    requires named { AreNamed fig.now drawn.now.drawing drawn.now.names.items }
+    ensures ok { IfOk result (TakesSo request taker.now.ops fig.now drawn.now.drawing
+        drawn.now.seen) }
+    ensures refused { IfErr result (RefusesDrawing request taker.now.ops fig.now
         drawn.now.drawing drawn.now.seen) }
 {
-    let (history, site) = (taker.history(), taker.number());
+    let (history, site) = (taker.history(), request.site);
     check_known(history, site, &drawn.seen)?;
     check_age(history, site, &drawn.seen)?;
     let mut base = base_site(alloc, site, history, &drawn.seen)?;
-    let made = make_from(alloc, &mut base, fig, drawn)?;
+    let made = make_from(alloc, &mut base, fig, drawn, request.after)?;
     let numbers = numbers_of(alloc, &made.ops)?;
+    let text = text_of(alloc, history, &made.ops, request.named)?;
     Ok(TakenText {
-        text: lines_of(alloc, &made.ops)?,
+        text,
         taken: Taken {
             made: made_of(&made.ops),
             since: made_since(history, site, &drawn.seen),
@@ -123,6 +132,26 @@ fn until(made: Option<Made>, last: OpId) -> Made
         first: made.map_or(last, |made| made.first),
         last,
     }
+}
+
+/// The lines of operations, and behind them the named text of a history with them, where it is
+/// asked for.
+fn text_of(
+    alloc: Global,
+    history: &History,
+    ops: &[Op],
+    named: bool,
+) -> Result<Vec<u8>, OutOfMemory>
+    requires in_range { (a : Op) → Contains ops.now a → IsInRange a }
+    requires accepted { AreAccepted (history.now.ops ++ ops.now) }
+    ensures { IfOk result (λ text. IsWrittenText named history.now.ops ops.now text.items) }
+{
+    let mut text = lines_of(alloc, ops)?;
+    if named {
+        let shown = text_with(alloc, history, ops)?;
+        text.extend_from_slice(&shown)?;
+    }
+    Ok(text)
 }
 
 /// The lines of operations.

@@ -7,7 +7,7 @@ use Rattle.gf_take_run.proofs.reading.read_lines.Goals as goal
 pub returns-in-Ok-check_waiting-clause-ok : goal.returns-in-Ok-check_waiting-clause-ok
 returns-in-Ok-check_waiting-clause-ok g c =
     let is = c.with_replica-taker.ensures in
-    rw is (denotes_lines c.args.site c.args.lines.items c.in-Ok.replica c.in-Ok.ensures.held
+    rw is (denotes_lines c.args.request.site c.args.lines.items c.in-Ok.replica c.in-Ok.ensures.held
     c.history.ensures.accepted (rw is at c.in-Ok-check_waiting.ensures.ok))
 
 pub returns-in-Err-Waits-clause-refused : goal.returns-in-Err-Waits-clause-refused
@@ -16,5 +16,5 @@ returns-in-Err-Waits-clause-refused g c = λ fig.
     let waits : HoldsBlocking c.with_replica-taker.result c.in-Err-Waits.id c.in-Err-Waits.other =
     subst (λ (e : EditError). RefusesWaiting c.with_replica-taker.result e)
     c.in-Err-Waits.field-0-is c.in-Err-Waits.ensures.err in
-    has_blocking c.args.site c.args.lines.items c.in-Ok.replica c.in-Ok.ensures.held
+    has_blocking c.args.request.site c.args.lines.items c.in-Ok.replica c.in-Ok.ensures.held
     c.in-Err-Waits.id c.in-Err-Waits.other (rw is at waits)

@@ -12,7 +12,7 @@ returns-in-Err-clause-sink g c =
       writes = record {
         flushed = tt;
         failed = λ w. c.in-Err.ensures.failed;
-        prefix = λ w. cut_take c.args.site (g.R.Source.left c.args.source.now) old new
+        prefix = λ w. cut_take c.args.request (g.R.Source.left c.args.source.now) old new
             taken.text.items
             taken.taken c.in_ok-taken.ensures.ok
             (subst (AppendsPrefix old new) c.deref.ensures.value c.in-Err.ensures.err);

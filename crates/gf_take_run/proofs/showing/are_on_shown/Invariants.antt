@@ -4,4 +4,4 @@ use Rattle.gf_take_run.specs.ShownItems.{IsOnOne}
 use Rattle.gf_take_run.proofs.showing.are_on_shown.Given as goal
 
 abbrev pub invariant-loop-change : goal.invariant-loop-change
-invariant-loop-change l = All (IsOnOne l.shown) (take l.change-index l.changes)
+invariant-loop-change l = All (IsOnOne l.shown l.fig) (take l.change-index l.changes)

@@ -12,8 +12,11 @@ returns-in_err-take_drawing-clause-refused g c =
     let p = err_from_is_err_and c.from_residual-in_err-take_drawing.result
     c.from_residual-in_err-take_drawing.ensures.1 in
     let refused = rw c.deref-2.ensures.value at c.in_err-take_drawing.ensures.refused in
-    rw (p.1, p.2) (parts_refused c.args.site c.in_ok-taker.taker.number
-    c.in_ok-taker.ensures.number c.args.parts.lines.items c.args.parts.fig.items
-    c.in_ok-taker.taker.ops c.in_ok-taker.ensures.ok c.in_ok-drawn.drawn.drawing
+    rw (p.1, p.2) (parts_refused c.args.request c.args.parts.lines.items
+    c.args.parts.fig.items c.in_ok-taker.taker.ops c.in_ok-taker.ensures.ok c.in_ok-drawn.drawn.drawing
     c.in_ok-drawn.drawn.seen (rw c.deref.ensures.value at c.in_ok-drawn.ensures.ok)
     c.in_err-take_drawing.field-0.0 refused)
+
+pub take_drawing-requires-clause-named : goal.take_drawing-requires-clause-named
+take_drawing-requires-clause-named g c =
+    rw c.deref-2.ensures.value (rw c.deref.ensures.value at c.in_ok-drawn.ensures.named)

@@ -16,12 +16,12 @@ returns-in_default-clause-refused g c = no_drawing refl
 
 pub returns-clause-ok : goal.returns-clause-ok
 returns-clause-ok g c =
-    text_taken c.args.site c.args.bytes.items c.in-Some.parts.lines.items c.in-Some.parts.fig.items
+    text_taken c.args.request c.args.bytes.items c.in-Some.parts.lines.items c.in-Some.parts.fig.items
     (rw c.in-Some.is at c.in_ok-parts.ensures.parted) c.take_parts.result c.take_parts.ensures.ok
 
 pub returns-clause-refused : goal.returns-clause-refused
 returns-clause-refused g c =
-    text_refused c.args.site c.args.bytes.items c.in-Some.parts.lines.items
+    text_refused c.args.request c.args.bytes.items c.in-Some.parts.lines.items
     c.in-Some.parts.fig.items
     (rw c.in-Some.is at c.in_ok-parts.ensures.parted) c.take_parts.result
     c.take_parts.ensures.refused
