@@ -55,6 +55,15 @@ HasNaturalOr other rows name = IsNaturalOr other (first_of name rows)
 abbrev pub HasWholeOr : ℤ → List Row → Text → ℤ → Type 0
 HasWholeOr other rows name = IsWholeOr other (first_of name rows)
 
+-- n is the number of the text, and none where there is no text
+abbrev pub IsNaturalOrNone : Option Text → Option ℕ → Type 0
+IsNaturalOrNone text n =
+    MatchOption text (n ≡ None) (λ t. n ≡ Some (digits_value 10 (without_leading_plus t)))
+
+-- n is the number that the option has in these rows, and none where it is not given
+abbrev pub HasNaturalOrNone : List Row → Text → Option ℕ → Type 0
+HasNaturalOrNone rows name = IsNaturalOrNone (first_of name rows)
+
 -- in these rows the option is given
 abbrev pub is_given : Text → List Row → Bool
 is_given name rows = is_some (first_of name rows)
@@ -110,6 +119,13 @@ abbrev pub IsFig : List Row → Run → Type 0
 IsFig rows (Fig workers) = (has_flag (codes "named") rows ≡ false) × HasWorkers rows workers
 IsFig rows (NamedFig workers) = IsTrue (has_flag (codes "named") rows) × HasWorkers rows workers
 IsFig rows other = ⊥
+
+-- the options of these rows ask for this take
+abbrev pub IsTake : List Row → Run → Type 0
+IsTake rows (Take editor after named workers) =
+    HasNatural rows (codes "site") editor.site × HasNaturalOrNone rows (codes "after") after
+    × (named ≡ has_flag (codes "named") rows) × HasWorkers rows workers
+IsTake rows other = ⊥
 
 -- the editor is the site of this number
 abbrev pub IsEditorOf : ℕ → Option Editor → Type 0
@@ -168,9 +184,8 @@ AsksRun met (Import editor) =
     Meets met (codes "import") (λ rows. HasNatural rows (codes "site") editor.site)
 AsksRun met (Edit editor) =
     Meets met (codes "edit") (λ rows. HasNatural rows (codes "site") editor.site)
-AsksRun met (Take editor workers) =
-    Meets met (codes "take") (λ rows.
-    HasNatural rows (codes "site") editor.site × HasWorkers rows workers)
+AsksRun met (Take editor after named workers) =
+    Meets met (codes "take") (λ rows. IsTake rows (Take editor after named workers))
 AsksRun met (Status check workers) =
     Meets met (codes "status") (λ rows.
     (check ≡ has_flag (codes "check") rows) × HasWorkers rows workers)

@@ -60,7 +60,8 @@ site = author ∷ []
 
 -- the options of a take
 abbrev pub drawing : List Rule
-drawing = author ∷ reading ∷ []
+drawing =
+    author ∷ optional (codes "after") (Unsigned 0 10000) ∷ flag (codes "named") ∷ reading ∷ []
 
 -- the options of a status
 abbrev pub check : List Rule

@@ -1,5 +1,5 @@
 -- What the runs of the program leave on their output (this project's choice).
-use Rattle.std.specs.Prelude.{◌≡◌, ◌⊎◌, ℕ, true, List, Option, option_map}
+use Rattle.std.specs.Prelude.{◌≡◌, ◌⊎◌, ℕ, Bool, true, List, Option, option_map}
 use Rattle.gf_scanline.specs.Windows.{View}
 use Rattle.gf_studio.specs.declared.painting.Extent.{Extent}
 use Rattle.gf_studio.specs.declared.painting.Format.{Format}
@@ -12,6 +12,7 @@ use Rattle.gf_run.specs.RunAnswers.{WritesPrefix}
 use Rattle.gf_import.specs.ImportRun.{Imports, WritesImport}
 use Rattle.gf_edit.specs.declared.made.Made.{Made}
 use Rattle.gf_edit.specs.EditRun.{IsEditOf, WritesEdit}
+use Rattle.gf_take_run.specs.declared.request.TakeRequest.{TakeRequest}
 use Rattle.gf_take_run.specs.declared.taken.Taken.{Taken}
 use Rattle.gf_take_run.specs.TakeRun.{IsTakeOf, WritesTake}
 use Rattle.gf_status.specs.declared.state.State.{State}
@@ -30,6 +31,10 @@ use Rattle.gf_command.specs.declared.runs.Run.TheVariants.{Check, Session}
 -- the number of the site, where one is given
 abbrev pub site_of : Option Editor → Option ℕ
 site_of editor = option_map (λ e. e.site) editor
+
+-- what a take of this site asks for
+abbrev pub request_of : Editor → Option ℕ → Bool → TakeRequest
+request_of editor after named = record { site = editor.site; after = after; named = named }
 
 -- known bytes grow from old to new by the picture, in the window that the extent asks for, of an
 -- input of this format
@@ -59,8 +64,8 @@ Answers (Inspect query workers) bytes old new = WritesAnswer query bytes old new
 Answers (Import editor) bytes old new = WritesImport editor.site bytes old new
 Answers (Edit editor) bytes old new =
     (made : Option Made) × WritesEdit editor.site bytes made old new
-Answers (Take editor workers) bytes old new =
-    (taken : Taken) × WritesTake editor.site bytes taken old new
+Answers (Take editor after named workers) bytes old new =
+    (taken : Taken) × WritesTake (request_of editor after named) bytes taken old new
 Answers (Status check workers) bytes old new =
     (state : State) × (check ≡ true → state ≡ Clean) × WritesStatus bytes state old new
 Answers (Check editor) bytes old new =
@@ -80,8 +85,8 @@ AnswersPrefix (Inspect query workers) bytes old new =
     WritesPrefix (AnswersQuery query bytes) old new
 AnswersPrefix (Import editor) bytes old new = WritesPrefix (Imports editor.site bytes) old new
 AnswersPrefix (Edit editor) bytes old new = WritesPrefix (IsEditOf editor.site bytes) old new
-AnswersPrefix (Take editor workers) bytes old new =
-    WritesPrefix (IsTakeOf editor.site bytes) old new
+AnswersPrefix (Take editor after named workers) bytes old new =
+    WritesPrefix (IsTakeOf (request_of editor after named) bytes) old new
 AnswersPrefix (Status check workers) bytes old new = WritesPrefix (IsStatusOf bytes) old new
 AnswersPrefix (Check editor) bytes old new =
     WritesPrefix (AnswersText (site_of editor) bytes) old new

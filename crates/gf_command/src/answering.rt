@@ -25,7 +25,7 @@ use gf_session_run::session_run;
 use gf_status::{State, status_run};
 use gf_streams::{Sink, Source, WriteError, write_whole};
 use gf_studio::{Format, NamedRun, OpenGate, StudioError, fig_run, inspect_run, named_fig_run};
-use gf_take_run::{Taken, take_run};
+use gf_take_run::{TakeRequest, Taken, take_run};
 use std::alloc::{AllocError, Global};
 use std::io;
 use std::sync::Wait;
@@ -151,8 +151,18 @@ fn answer<T: Threads + Wait + Sync, R: Source, W: Sink>(
             let made = edit_run(alloc, source, output, editor.site)?;
             return Ok(Outcome::Made(made));
         }
-        Run::Take { editor, workers } => {
-            let taken = take_run(rt, alloc, source, output, editor.site, workers.count)?;
+        Run::Take {
+            editor,
+            after,
+            named,
+            workers,
+        } => {
+            let request = TakeRequest {
+                site: editor.site,
+                after,
+                named,
+            };
+            let taken = take_run(rt, alloc, source, output, request, workers.count)?;
             return Ok(Outcome::Taken(taken));
         }
         Run::Status { check, workers } => {

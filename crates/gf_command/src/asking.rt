@@ -6,7 +6,8 @@ ghost use Rattle.clap.specs.Words.{HasKind, fault_of, found_of, rows_of};
 ghost use Rattle.clap.specs.Words.{subcommand_of, subcommand_rows_of};
 ghost use Rattle.gf_command.specs.CommandLine as line;
 ghost use Rattle.gf_command.specs.Asking.{AreTaken, AsksQuery, HasNatural, HasNaturalOr};
-ghost use Rattle.gf_command.specs.Asking.{HasWholeOr, HasWorkers};
+ghost use Rattle.gf_command.specs.Asking.{HasNaturalOrNone, HasWholeOr, HasWorkers};
+ghost use Rattle.gf_command.specs.Asking.{IsNaturalOrNone, IsTake};
 ghost use Rattle.gf_command.specs.Asking.{IsAsked, IsCanvas, IsChecked, IsEditorOf};
 ghost use Rattle.gf_command.specs.Asking.{IsEditorOrNone, IsExtent, IsFig, IsFrame, IsInspected};
 ghost use Rattle.gf_command.specs.Asking.{IsNaturalOr, IsWholeOr, IsWindow, AsksFor, has_flag};
@@ -60,10 +61,7 @@ fn read_matches(matches: &ArgMatches<'_>) -> Option<Asked>
         },
         "import" => Some(Asked::Run(Run::Import(editor_of(matches)?))),
         "edit" => Some(Asked::Run(Run::Edit(editor_of(matches)?))),
-        "take" => Some(Asked::Run(Run::Take {
-            editor: editor_of(matches)?,
-            workers: workers_of(matches)?,
-        })),
+        "take" => Some(Asked::Run(take_of(matches)?)),
         "status" => Some(Asked::Run(Run::Status {
             check: has_flag(matches, "check"),
             workers: workers_of(matches)?,
@@ -83,6 +81,38 @@ fn fig_of(matches: &ArgMatches<'_>) -> Option<Run>
         Some(Run::NamedFig(workers))
     } else {
         Some(Run::Fig(workers))
+    }
+}
+
+/// What a take asks for.
+fn take_of(matches: &ArgMatches<'_>) -> Option<Run>
+    ensures { IfSome result (IsTake (rows_of (found_of matches.now))) }
+{
+    let editor = editor_of(matches)?;
+    let after = after_of(matches)?;
+    let workers = workers_of(matches)?;
+    Some(Run::Take {
+        editor,
+        after,
+        named: has_flag(matches, "named"),
+        workers,
+    })
+}
+
+/// The number of operations behind which a take makes nothing, where one is given.
+fn after_of(matches: &ArgMatches<'_>) -> Option<Option<u32>>
+    ensures { IfSome result (HasNaturalOrNone (rows_of (found_of matches.now)) (codes "after")) }
+{
+    natural_or_none(matches.get_str("after"))
+}
+
+/// The number of a text, of 32 bits; none where there is no text.
+fn natural_or_none(text: Option<&str>) -> Option<Option<u32>>
+    ensures { IfSome result (IsNaturalOrNone (option_map (λ t. t.now) text.entry)) }
+{
+    match text {
+        None => Some(None),
+        Some(text) => Some(Some(text.parse().ok()?)),
     }
 }
 

@@ -269,7 +269,21 @@ fn site<'a>(alloc: Global) -> Result<Vec<Arg<'a>>, AllocError>
 fn drawing<'a>(alloc: Global) -> Result<Vec<Arg<'a>>, AllocError>
     ensures { IfOk result (λ args. map rule_of args.items ≡ line.drawing) }
 {
-    Ok(vec![in alloc; author(alloc), reading(alloc)]?)
+    Ok(vec![in alloc;
+        author(alloc),
+        optional(
+            alloc,
+            "after",
+            ValueParser::unsigned(0, 10_000),
+            "Make nothing where the site has made more operations than this, 0 to 10,000",
+        ),
+        flag(
+            alloc,
+            "named",
+            "Write the drawing of all behind the operations, as fig --named does, where it has one",
+        ),
+        reading(alloc),
+    ]?)
 }
 
 /// Which site makes the operations of a run.

@@ -17,17 +17,28 @@ pub enum Run {
     /// The picture of a FIG text.
     Repaint(Canvas),
     /// What the history of operation lines answers to a query.
-    Inspect { query: Query, workers: Workers },
+    Inspect {
+        query: Query,
+        workers: Workers,
+    },
     /// The commands of this site that create the figures of a FIG text.
     Import(Editor),
     /// The operations that the commands of this site make behind the others.
     Edit(Editor),
     /// The operations by which this site shows the FIG text behind operation lines, which these
-    /// workers read.
-    Take { editor: Editor, workers: Workers },
+    /// workers read. `after` and `named` are those of a `TakeRequest`.
+    Take {
+        editor: Editor,
+        after: Option<u32>,
+        named: bool,
+        workers: Workers,
+    },
     /// What has come, what waits, and which versions differ. If `check` is true, what waits or
     /// differs is told by the status too.
-    Status { check: bool, workers: Workers },
+    Status {
+        check: bool,
+        workers: Workers,
+    },
     /// What is wrong with operation lines, and with the command lines of this site where one is
     /// given.
     Check(Option<Editor>),
