@@ -27,6 +27,7 @@ class Drawing:
         self.pages = set()
         self.changed = asyncio.Event()
         self.told = None
+        self.drawn = 0, None  # the last text of a take, and how many bytes all lines have with which it is the newest
         for file in self.files.values():
             file.open()
 
@@ -96,9 +97,11 @@ class Drawing:
                 raise Watching
             if after != file.last:
                 raise Behind(file.last)
-            new, said = await change(page.site, self.lines())
+            lines = self.lines()
+            new, said, text = await change(page.site, lines, file.last)
             if new:
                 await asyncio.to_thread(file.append, held, new, *request)
+                self.drawn = len(lines) + len(new), text
                 self.changed.set()
             return {'taken': file.last, 'made': new.decode(), 'said': said}
 
@@ -107,11 +110,11 @@ class Drawing:
         text = text.encode()
         if not text.startswith(b'#FIG'):  # what stands before it would be read as operations
             raise Refusal('the drawing has to begin with #FIG')
-        return await self.make(page, request, after, lambda site, lines: program.take(site, lines, text))
+        return await self.make(page, request, after, lambda site, lines, last: program.take(site, lines, text, last))
 
     async def show(self, page, request, after, name, shown):
         """Shows or hides an object of which nothing is seen."""
-        return await self.make(page, request, after, lambda site, lines: program.show(site, lines, name, shown))
+        return await self.make(page, request, after, lambda site, lines, _: program.show(site, lines, name, shown))
 
     # ---- What pages are told
 
@@ -130,8 +133,9 @@ class Drawing:
         while True:
             await self.changed.wait()
             self.changed.clear()
+            lines, (length, text) = self.lines(), self.drawn
             try:
-                text, status = await program.named(self.lines())
+                text, status = await program.named(lines, text if length == len(lines) else None)
                 self.told = {'drawing': text, 'status': status, **self.fault()}
             except Refusal as refusal:
                 self.told = {'fault': str(refusal)}

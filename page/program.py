@@ -12,21 +12,28 @@ BYTES = 4 * 1024 ** 3  # of memory
 AT_ONCE = asyncio.Semaphore(max(2, os.cpu_count() or 2))
 
 
-async def take(site, lines, text):
-    """The operations that make of the drawing of these lines that of a text, and what is told of them."""
-    return await run('take', '--site', str(site), read=lines + text)
+async def take(site, lines, text, last):
+    """The operations that make of the drawing of these lines that of a text, what is told of them, and the drawing of
+    all as a text, or None where it has none. The last operation of the site is told, so that no other one is undone."""
+    wrote, said = await run('take', '--site', str(site), '--after', str(last), '--named', read=lines + text)
+    place = 0 if wrote.startswith(b'#FIG') else wrote.find(b'\n#FIG') + 1
+    if wrote.startswith(b'#FIG') or place:
+        return wrote[:place], said, wrote[place:].decode()
+    return wrote, said, None
 
 
 async def show(site, lines, name, shown):
-    """The operations that show or hide an object, and what is told of them."""
+    """The operations that show or hide an object, what is told of them, and None for a text."""
     command = {'site': site, 'do': 'set', 'object': [int(word) for word in name.split('.')], 'set': 'shown', 'to': shown}
-    return await run('edit', '--site', str(site), read=lines + json.dumps(command).encode())
+    return *await run('edit', '--site', str(site), read=lines + json.dumps(command).encode()), None
 
 
-async def named(lines):
-    """The drawing as a text with names, and its status."""
-    (text, _), (status, _) = await asyncio.gather(run('fig', '--named', read=lines), run('status', read=lines))
-    return text.decode(), status.decode()
+async def named(lines, text):
+    """The drawing as a text with names, if it is not known already, and its status."""
+    if text is None:
+        (text, _), (status, _) = await asyncio.gather(run('fig', '--named', read=lines), run('status', read=lines))
+        return text.decode(), status.decode()
+    return text, (await run('status', read=lines))[0].decode()
 
 
 async def run(*words, read):

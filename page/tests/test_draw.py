@@ -64,6 +64,17 @@ class Gestures(PageTest):
             wait(lambda: len(page.figures) == count)
         self.assertEqual(2, self.server.figgroup('fig').count('\n2 2 '))
 
+    def test_undo_of_a_deletion_keeps_the_object(self):
+        page = self.page()
+        page.draw('r', (0, 0), (1000, 1000))
+        wait(lambda: page.module('return drawing.figures[0]?.object') == '1.1')
+        page.press(Keys.DELETE)
+        self.made(2)
+        page.wait_for('saved')
+        page.press(Keys.CONTROL, 'z')
+        self.assertEqual(([1, 1], 'shown', True), self.last(3, 'object', 'set', 'to'))
+        page.wait_figures([f'rect {FIRST} 0 0 1000 1000'])
+
     def test_cut_and_paste(self):
         page = self.page()
         page.draw('r', (0, 0), (1000, 1000))

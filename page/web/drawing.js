@@ -15,8 +15,8 @@ export function difference(before, after) {
 export const turned = changes => changes.map(({key, was, is}) => ({key, was: is, is: was}));
 
 // Does such changes to another list. Of a figure that others changed meanwhile only that changes which the gesture
-// changed; where it is gone, nothing. What was deleted comes back as a new figure. `find` tells the key that a figure
-// has now, `rename` hears of a new one.
+// changed; where it is gone, nothing. What was deleted comes back by its name, if it had one. `find` tells the key that
+// a figure has now, `rename` hears of a new one.
 export function redo(figures, changes, find = key => key, rename = () => {}) {
     const list = [...figures];
     const upon = below => below ? list.findIndex(figure => figure.key === find(below)) + 1 || list.length : 0;
@@ -110,7 +110,10 @@ export class Drawing extends EventTarget {
     }
 
     #make(changes) {
-        this.figures = redo(this.figures, changes, this.find, (old, key) => this.#renamed.set(old, key));
+        this.figures = redo(this.figures, changes, this.find, (old, key) => {
+            this.#renamed.delete(key);
+            if (old !== key) this.#renamed.set(old, key);
+        });
         this.select(changes.map(({key}) => this.find(key)));
         this.dispatchEvent(new Event('gesture'));
     }

@@ -19,7 +19,10 @@ export const fresh = (kind, shape, colour) =>
 // Another one each time, so that it is a change.
 export const elsewhere = () => -++turns;
 
-export const again = figure => fresh(figure.kind, figure.shape, figure.colour);
+export const copied = figure => fresh(figure.kind, figure.shape, figure.colour);
+
+// As it was, by its name if it has one: where its object is hidden a take shows it again.
+export const again = figure => figure.object ? {...figure, at: elsewhere()} : copied(figure);
 
 export const sameShape = (a, b) => a.kind === b.kind && String(a.shape) === String(b.shape);
 export const sameLook = (a, b) => a === b || a.colour === b.colour && sameShape(a, b);

@@ -1,5 +1,5 @@
 // The words of buttons and keys: what each does, by which keys, and how the help tells it.
-import {again, moved} from './figure.js';
+import {copied, moved} from './figure.js';
 
 export const WORDS = [
     ['undo', ['Ctrl+z'], 'Undo'],
@@ -51,7 +51,7 @@ export function actions({drawing, canvas, gestures, ask}) {
     let held = [];
     const beside = () => 2 * canvas.step();
     const paste = figures => {
-        const copies = figures.map(figure => moved(again(figure), beside(), beside()));
+        const copies = figures.map(figure => moved(copied(figure), beside(), beside()));
         drawing.change([...drawing.figures, ...copies], copies.map(({key}) => key));
         return copies;
     };
