@@ -3,7 +3,8 @@
 
 A contract rests on the names in its clauses, and a definition on those in its text, but for the names that these bind
 themselves and for fields. A file of definitions is headed by one sentence, with its source in brackets. With --check
-nothing is written, and the status is 1 where the page is not the one that would be made."""
+nothing is written, and the status is 1 where the page is not the one that would be made. It is 1 too where a file says
+that no public clause cites it, and the clause of a public function rests on it."""
 
 import re
 import sys
@@ -28,6 +29,8 @@ COMMANDS = {
     "s": ("session", "gf_session_run.session_run"),
     "w": ("the words of a command line", "gf_command.command"),
 }
+# What the head of a file says whose definitions only proofs rest on.
+PRIVATE = "No public clause cites this module."
 HEAD = """# Definitions
 
 Made by `docs/definitions.py` from the contracts and the specs. A claim is as good as the definitions that it names: all
@@ -173,29 +176,44 @@ def contract(place):
 
 def rests_on(files, places):
     """The definitions that these contracts rest on: each with its module."""
-    found, left = set(), []
-
-    def follow(names, imports, here):
-        for name in names:
-            local = here and name in files[here].definitions
-            if local or name in imports:
-                left.append((here, name) if local else imports[name])
-
+    found, cited = set(), []
     for place in places.split():
         if place.count(".") == 2:
-            left.append(tuple(place.rsplit(".", 1)))
+            cited.append(tuple(place.rsplit(".", 1)))
             continue
         whole, imports, traits = contract(place)
         found |= traits
-        follow(whole.names(), imports, None)
+        cited += [imports[name] for name in whole.names() if name in imports]
+    return found | rest_of(files, cited)
+
+
+def rest_of(files, cited):
+    """The definitions that these rest on, themselves among them: each with its module."""
+    found, left = set(), list(cited)
     while left:
         module, name = left.pop()
-        if (module, name) not in found:
-            found.add((module, name))
-            if module in files and name in files[module].definitions:
-                file = files[module]
-                follow(file.definitions[name].names(), file.imports, module)
+        if (module, name) in found:
+            continue
+        found.add((module, name))
+        file = files.get(module)
+        if file and name in file.definitions:
+            for other in file.definitions[name].names():
+                if other in file.definitions:
+                    left.append((module, other))
+                elif other in file.imports:
+                    left.append(file.imports[other])
     return found
+
+
+def false_heads(files):
+    """Each public function with a file of definitions that its clauses rest on, whose head denies it."""
+    for path in sorted(CRATES.glob("gf_*/src/**/*.rt")):
+        text = path.read_text()
+        imports = imports_of(text)
+        for function, whole in re.findall(r"(?ms)^ *pub fn (\w+)\b(.*?^ *\{)", text):
+            names = Definition(function, re.sub(r"//.*", "", whole)).names()
+            modules = {module for module, _ in rest_of(files, [imports[name] for name in names if name in imports])}
+            yield from ((path, function, it) for it in modules if it in files and files[it].head.endswith(PRIVATE))
 
 
 def type_of(module, name):
@@ -205,9 +223,12 @@ def type_of(module, name):
     return found.removesuffix("PartialEq") if parts[1] == "contracts" else found
 
 
-def page():
+def read_all():
     paths = sorted(path for path in CRATES.glob("*/specs/**/*.antt") if path.name != "Lib.antt")
-    files = {f"{file.crate}.{file.module}": file for file in map(read, paths)}
+    return {f"{file.crate}.{file.module}": file for file in map(read, paths)}
+
+
+def page(files):
     order = [line.split(":")[0] for line in (ROOT / "crates.txt").read_text().splitlines() if ":" in line]
     found = {letter: rests_on(files, places) for letter, (_, places) in COMMANDS.items()}
     every = set().union(*found.values())
@@ -237,10 +258,14 @@ def page():
 
 
 def main():
-    made = page()
+    files = read_all()
+    made = page(files)
     if "--check" not in sys.argv:
         PAGE.write_text(made)
-    elif PAGE.read_text() != made:
+        return
+    for path, function, module in false_heads(files):
+        sys.exit(f"{path.relative_to(ROOT)}: a clause of {function} rests on {module}, which says that none does")
+    if PAGE.read_text() != made:
         sys.exit("docs/DEFINITIONS.md is not what docs/definitions.py makes of the contracts and the specs: run it")
 
 
