@@ -34,6 +34,12 @@ figgroup() {
 export -f draw figgroup
 export root
 
+# The commands behind a heading of docs/ACCIDENTS.md.
+way_out() {
+    awk -v heading="$1" '/^#/ { here = $0 == heading } /^```/ { inside = !inside; next } here && inside' \
+        "$root/docs/ACCIDENTS.md"
+}
+
 # A folder with a house and a fir that stands at two places.
 begin() {
     mkdir "$folder/$1"
@@ -121,6 +127,107 @@ say "FIG_EDITOR='cp $saved/move-version.fig' draw 2>&1 | grep -v versions"
 say "draw undo"
 say "rm drawing.fig"
 say "draw undo"
+# What was drawn is kept by a drawing of the newest.
+say "FIG_EDITOR='cp $saved/draw-kinds.fig' draw 2>&1 | tail -n 1"
+say "mv drawing.fig kept.fig"
+say "FIG_EDITOR='tail -n 2 kept.fig | tee -a' draw > /dev/null"
+say "draw list | sed -n 1,3p"
+
+heading "a file that is missing is told before the window opens"
+begin missing
+draw site 2 > /dev/null
+mv site-1.jsonl away
+say "FIG_EDITOR='echo opened' draw"
+say "ls"
+mv away site-1.jsonl
+: > site-2.jsonl
+echo '{"site":1,"do":"set","object":[1,6],"set":"layer","to":5}' > commands
+cat "$root"/examples/named/site-*.jsonl commands | figgroup edit --site 1 >> site-1.jsonl 2> /dev/null
+say "FIG_EDITOR='echo opened' draw"
+
+heading "a word that is killed"
+begin killed
+draw site 1 > /dev/null
+cp site-1.jsonl before
+mkdir stubs
+# Kills the word as it moves a file to this name, before or behind that; or fails to bring a file onto the disk.
+cat > stubs/mv << 'END'
+#!/bin/bash
+[ "$WHEN" != before ] || [ "${*: -1}" != "$NAME" ] || { kill -9 $PPID; exit 1; }
+command -p mv "$@"
+[ "$WHEN" != behind ] || [ "${*: -1}" != "$NAME" ] || kill -9 $PPID
+END
+printf '#!/bin/sh\ntest "$1" != -- -o "$2" = . -o -z "$FULL"\n' > stubs/sync
+chmod +x stubs/*
+killed() {
+    (PATH=$PWD/stubs:$PATH WHEN=$1 NAME=$2 "$root/bin/draw" "${@:3}" & wait $!) > /dev/null 2>&1 || echo "status $?"
+}
+export -f killed
+say "killed before drawing.last move 10 10 1.1"
+say "draw list 1.1"
+say "draw move 10 10 1.1"
+say "killed before site-1.jsonl move 10 10 1.1"
+say "draw move 10 10 1.1"
+say "killed behind site-1.jsonl move 10 10 1.1 1.5"
+say "tail -n 2 site-1.jsonl"
+say "draw undo"
+# What the server of the page was adding, with a part of it added; and what is none of its files.
+tail -n 1 site-1.jsonl | sed 's/1,13\]/1,14]/; s/"past":\[12/"past":[13/' > new
+(echo "$(wc -c < site-1.jsonl) {}"; cat new) > drawing.redo-1
+head -c 20 new >> site-1.jsonl
+say "draw undo"
+say "tail -n 1 site-1.jsonl | cmp - new"
+echo 'a[$(touch ran)] {}' > drawing.redo-1
+rm new drawing.taken-1
+say "draw undo"
+say "FIG_EDITOR='cp $saved/draw-kinds.fig' killed behind drawing.fig"
+say "FIG_EDITOR=true draw 2>&1 | grep -v ^object"
+say "FIG_EDITOR='tail -n 2 $saved/draw-kinds.fig | tee -a' killed behind site-1.jsonl"
+say "draw list | sed -n 1,2p"
+say "FIG_EDITOR=true draw 2>&1 | grep -v ^object"
+say "draw list | sed -n 1,2p"
+cp site-1.jsonl before
+say "PATH=\$PWD/stubs:\$PATH FULL=1 draw move 10 10 1.1"
+say "PATH=\$PWD/stubs:\$PATH FULL=1 draw picture 2>&1 | tail -n 1"
+say "cmp before site-1.jsonl"
+say "draw undo"
+rm -r stubs
+say "ls"
+
+heading "links and names"
+begin links
+draw site 1 > /dev/null
+echo kept > ../kept
+ln -s ../kept drawing.last
+say "draw move 10 10 1.1"
+rm drawing.last
+ln -s /dev/zero site-3.jsonl
+say "draw list"
+rm site-3.jsonl
+mkfifo site-3.jsonl
+say "draw list"
+rm site-3.jsonl
+say "cat ../kept"
+echo '{' > $'site-3 &\\1\n\e[31m.jsonl'
+say "draw list"
+rm site-3*
+mkdir $'a [b] & \n\\c'
+cd $'a [b] & \n\\c'
+git init -q .
+mkdir 'sub [a] *'
+cd 'sub [a] *'
+cp "$root"/examples/named/site-*.jsonl .
+say "draw site 1"
+say "draw move 10 10 1.1"
+say "draw picture 'one & two.png' 2>&1 | tail -n 1"
+say "draw anew 'new & old' 2>&1 | tail -n 1"
+say "git status --short -uall . | grep -c 'site\$\|drawing'"
+# A repository that was begun behind draw site.
+begin later
+draw site 1 > /dev/null
+git init -q .
+say "draw move 10 10 1.1"
+say "git status --short"
 
 heading "words for objects"
 begin objects
@@ -261,8 +368,109 @@ say "draw set 1.10 colour ff0000"
 say "draw pull 2>&1 | grep ^draw"
 say "git status --short"
 # The way out as docs/ACCIDENTS.md has it, to a number that is free here.
-awk '/^```/ { inside = !inside; next } inside' "$root/docs/ACCIDENTS.md" | sed 's/new=2/new=3/' > ../way
+way_out "## One number used twice" | sed 's/new=2/new=3/' > ../way
 say "sh ../way"
 say "cat site-3.jsonl"
 say "draw status"
 say "draw push"
+
+heading "what others push takes nothing from this copy"
+cd ..
+for name in fay gil; do
+    git clone -q -c user.name=$name -c user.email=$name@example.org drawing.git $name
+done
+cd gil
+# What fay commits and pushes.
+fay() {
+    (cd ../fay && git pull -q --no-edit && bash -c "$1" && git add -A -f && git commit -q -m "$1" && git push -q)
+}
+# gil's file is as it was.
+same() {
+    cmp ../mine site-4.jsonl && cat site && git log -1 --format=%an
+}
+export -f same
+draw site 4
+draw copy 100 100 1.1 2> /dev/null
+draw set 1.5 layer 4 2> /dev/null
+draw push > /dev/null
+cp site-4.jsonl ../mine
+fay "echo 1 > site; touch drawing.fig"
+say "draw pull"
+say "same"
+say "ls drawing.fig"
+fay "rm drawing.fig; git rm -q --cached site; mv site ../was"
+fay "sed -i '\$d' site-4.jsonl"
+say "draw pull"
+say "same"
+say "draw set 1.5 layer 3"
+say "draw pull"
+cp site-4.jsonl ../mine
+fay "git checkout -q HEAD~ -- site-4.jsonl; : > site-1.jsonl"
+say "draw pull"
+fay "git checkout -q HEAD~ -- site-1.jsonl; sed -i '1s/760/770/' site-4.jsonl"
+say "draw pull"
+fay "git checkout -q HEAD~ -- site-4.jsonl; sed -i '1s/^/{}\\n/' site-4.jsonl"
+say "draw pull"
+fay "rm site-4.jsonl"
+say "draw pull"
+say "cmp ../mine site-4.jsonl"
+# The way out as docs/ACCIDENTS.md has it.
+way_out "### Lines that others deleted" > ../way
+say "sh ../way 2> /dev/null | grep -v '^CONFLICT\|^Automatic merge'"
+say "draw pull"
+say "cmp ../mine site-4.jsonl"
+fay "rm site-2.jsonl; ln -s ../../before site-2.jsonl"
+say "draw pull"
+fay "rm site-2.jsonl; git checkout -q HEAD~ -- site-2.jsonl; ln -s /dev/zero site-7.jsonl"
+say "draw pull"
+fay "rm site-7.jsonl; echo one > notes"
+echo two > notes
+git add notes
+git commit -q -m notes
+say "draw pull"
+git reset -q --hard HEAD~
+echo two > notes
+say "draw pull"
+rm notes
+say "draw pull"
+# Another drawing of this repository.
+mkdir sub
+echo 3 > sub/site
+echo /sub/site >> .git/info/exclude
+fay "mkdir sub; echo 1 > sub/site"
+say "draw pull"
+say "cat sub/site"
+fay "rm -r sub"
+say "draw pull"
+git add -f site
+git commit -q -m site
+say "draw push"
+git rm -q --cached site
+git commit -q -m 'no site'
+say "draw push"
+
+heading "deleted files"
+rm site-1.jsonl
+say "draw status | grep -v '^site\|waits'"
+say "draw pull"
+say "FIG_EDITOR='echo opened' draw"
+say "git checkout HEAD -- site-1.jsonl"
+say "draw pull"
+
+heading "a log of what others wrote"
+mkdir "$folder/log"
+cd "$folder/log"
+git init -q -b main .
+cp "$root"/examples/named/site-*.jsonl .
+sed -i 's/"polygon"/"poly\\u001b[2J\\ngon\\u009b"/' site-1.jsonl
+cat >> site-2.jsonl << 'END'
+{"past":"x"}
+{"id":[2,2],"past":[1,"x"]}
+{"id":[2,2],"past":[7,1,0,0,0,0,0,0],"aim":5,"set":"place"}
+5
+{"id":[2,2],"past":[7,1,0,0,0,0,0,0],"object":[1,6],"op":"set","set":"layer","to":"\u001b]0;x\u0007"}
+END
+git -c user.email=x@example.org -c user.name=$'a) {"id":[1,1],"past":[]} (b\e[2J' add .
+git -c user.email=x@example.org -c user.name=$'a) {"id":[1,1],"past":[]} (b\e[2J' commit -q -m odd
+say "draw log 2> /dev/null"
+say "draw log 2>&1 > /dev/null | cut -d : -f 1-3"

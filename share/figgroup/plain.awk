@@ -74,7 +74,10 @@ END {
     told("plain: kept " kept + 0 ", left out " left + 0)
 }
 
-function told(words) { print words > "/dev/stderr" }
+function told(words) {
+    gsub(/[^ -~]/, "?", words)
+    print words > "/dev/stderr"
+}
 
 function refuse(at, words) {
     told("plain: line " at ": " words)
@@ -125,7 +128,9 @@ function add_ellipse(    kind, x, y, a, b, turn, points, i, t) {
     kind = field[2] < 3 ? "ellipse" : "circle"
     x = field[13]; y = field[14]; a = field[15]; b = field[16]
     turn = kind == "circle" && a == b ? 0 : field[12]
-    if (a < 1 || b < 1) leave_out(kind, x, y, ": it has no extent")
+    if (!(x * x + y * y + a * a + b * b + turn * turn < 1e18) || tolower(turn) ~ /[a-z]/)
+        leave_out(kind, x, y, ": its numbers are none of FIG")
+    else if (a < 1 || b < 1) leave_out(kind, x, y, ": it has no extent")
     else if (is_filled(kind, x, y)) {
         if (turn == 0) {
             if (kind == "circle" && a != b) {
