@@ -1,5 +1,6 @@
 -- Changes of objects that do not stand in a drawing leave those that do.
-use Rattle.std.proofs.Common.{◌≡◌, ℕ, ◌+◌, ◌<◌, ◌≤◌, List, [], ◌∷◌, ◌++◌, ap, get_or, subst, sym}
+use Rattle.std.proofs.Common.{◌≡◌, ◌⊎◌, ℕ, ◌+◌, ◌<◌, ◌≤◌, List, [], ◌∷◌, ◌++◌, ap, get_or, inl, inr}
+use Rattle.std.proofs.Common.{subst, sym}
 use Rattle.std.proofs.Common.{◌∙◌, length}
 use Rattle.std.specs.Prelude.{All, Contains, Option, Some, IfSome, slice_get, take}
 use Rattle.std.specs.Prelude.{IsSomeAnd}
@@ -25,6 +26,7 @@ use Rattle.gf_fig_named.specs.declared.naming.Name.{Name}
 use Rattle.gf_fig_named.specs.declared.reading.Named.{Named}
 use Rattle.gf_take_run.specs.LeftObjects.{HasOwnFigure, LeavesStanding, StandsIn}
 use Rattle.gf_take_run.specs.LeavingSteps.{HasNoFigure, IsMeant}
+use Rattle.gf_take_run.specs.ShownItems.{IsOnItem}
 
 zip_at : {A B : Type 0} (Q : A → B → Type 0) (xs : List A) (ys : List B) → AllZip Q xs ys
     → (k : ℕ) (x : A) (y : B) → slice_get xs k ≡ Some x → slice_get ys k ≡ Some y → Q x y
@@ -78,7 +80,20 @@ module _ (h : List Op) (fig : List ℕ) (d : Drawn) (names : List (Option Named)
 
   left_one : (c : Change) → IsMeant d names items own c → LeavesStanding h fig d c
   left_one c meant o stands e =
-      not_standing o (subst (λ m. IfSome m (HasNoFigure d names items own)) e meant) stands
+      elim (subst (λ m. IfSome m Meant) e meant) [
+        | inl none ↦
+            let same : stands.items ≡ items = ranked_alike h h (λ a. (λ i. i, λ i. i))
+            stands.items items stands.ranked ranked in
+            none (record {
+              item = stands.some;
+              listed = subst (λ is. Contains is stands.some) same stands.listed;
+              object = stands.object;
+            })
+        | inr lacks ↦ not_standing o lacks stands
+      ]
+    where
+      Meant : ObjectId → Type 0
+      Meant o = (¬ (IsOnItem items o)) ⊎ HasNoFigure d names items own o
 
   pub left_all : (changes : List Change) (k : ℕ) → length changes ≤ k
       → All (IsMeant d names items own) (take k changes) → All (LeavesStanding h fig d) changes

@@ -1,5 +1,5 @@
 -- Figures that bear the name of a version and look like it. No public clause cites this module.
-use Rattle.std.specs.Prelude.{◌≡◌, ℕ, List, Option, Some, slice_get, IfSome}
+use Rattle.std.specs.Prelude.{◌≡◌, ◌⊎◌, ℕ, List, Option, Some, slice_get, IfSome}
 use Rattle.gf_shape.specs.declared.any_shape.AnyShape.{AnyShape}
 use Rattle.gf_shape.specs.declared.outline.Outline.{Outline}
 use Rattle.gf_ops.specs.declared.op.ObjectId.{ObjectId}
@@ -11,6 +11,7 @@ use Rattle.gf_fig_named.specs.declared.naming.Name.{Name}
 use Rattle.gf_fig_named.specs.declared.reading.Named.{Named}
 use Rattle.gf_take.specs.ShownDrawing.{look_at, look_of}
 use Rattle.gf_take_run.specs.LeftObjects.{changed_look}
+use Rattle.gf_take_run.specs.ShownItems.{IsOnItem}
 
 -- the figure at this index has the name, and looks like the item
 pub record IsFigureAt (drawing : Drawn) (names : List (Option Named)) (item : Placed AnyShape)
@@ -33,8 +34,10 @@ pub record HasNoFigure (drawing : Drawn) (names : List (Option Named))
   pub object : item.key.object ≡ o
   pub none : (k : ℕ) → ¬ (IsFigureAt drawing names item name k)
 
--- where the change gives an object something else than a layer, a version of this has no figure
+-- where the change gives an object something else than a layer, this has no version among the
+-- items, or one that has no figure
 abbrev pub IsMeant : Drawn → List (Option Named) → List (Placed AnyShape) → List Name → Change
     → Type 0
 IsMeant drawing names items own change =
-    IfSome (changed_look change) (HasNoFigure drawing names items own)
+    IfSome (changed_look change)
+    (λ o. (¬ (IsOnItem items o)) ⊎ HasNoFigure drawing names items own o)

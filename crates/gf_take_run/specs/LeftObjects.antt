@@ -47,10 +47,13 @@ pub record HasOwnFigure (h : List Op) (items : List (Placed AnyShape)) (fig : Li
   pub is_name : IsNameOf h items item named.name
   pub look : look_of drawing.table figure ≡ look_at item
 
--- each visible version in h of the object o has a figure of its name that looks like it
+-- h has visible versions of the object o, and each has a figure of its name that looks like it
 pub record StandsIn (h : List Op) (fig : List ℕ) (drawing : Drawn) (o : ObjectId) : Type 0 where
   pub items : List (Placed AnyShape)
   pub ranked : AreRanked h items
+  pub some : Placed AnyShape
+  pub listed : Contains items some
+  pub object : some.key.object ≡ o
   pub each : (i : Placed AnyShape) → Contains items i → i.key.object ≡ o
       → HasOwnFigure h items fig drawing i
 

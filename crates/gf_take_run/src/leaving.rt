@@ -9,7 +9,7 @@ ghost use Rattle.gf_take_run.specs.LeftObjects.{LeavesStanding, changed_look, is
 ghost use Rattle.gf_take_run.specs.LeavingSteps.{HasNoFigure, IsFigureAt, IsMeant};
 
 use crate::reading::ReadDrawing;
-use crate::showing::is_of;
+use crate::showing::{has_version, is_of};
 use gf_fig_named::{Name, names_of};
 use gf_ops::{Change, Ids, ObjectId, Value};
 use gf_shape::{AnyShape, OutOfMemory};
@@ -42,8 +42,8 @@ pub(crate) fn leave_standing(
     Ok(true)
 }
 
-/// Whether a change is of no more than a layer, or a version of its object has no figure of its
-/// name that looks like it.
+/// Whether a change is of no more than a layer, or its object has no version among these, or one
+/// that has no figure of its name that looks like it.
 fn is_meant(
     alloc: Global,
     shown: &[Placed<AnyShape>],
@@ -58,7 +58,12 @@ fn is_meant(
 {
     match changed_look(change) {
         None => Ok(true),
-        Some(object) => lacks_figure(alloc, shown, own, drawn, object),
+        Some(object) => {
+            if !has_version(shown, object) {
+                return Ok(true);
+            }
+            lacks_figure(alloc, shown, own, drawn, object)
+        }
     }
 }
 

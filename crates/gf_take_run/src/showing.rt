@@ -89,8 +89,8 @@ fn is_on_shown(
 }
 
 /// Whether an object has a version among these.
-fn has_version(shown: &[Placed<AnyShape>], object: ObjectId) -> bool
-    ensures { IsTrue result → IsOnItem shown.now object }
+pub(crate) fn has_version(shown: &[Placed<AnyShape>], object: ObjectId) -> bool
+    ensures { IsTrue result ↔ IsOnItem shown.now object }
 {
     for item in shown {
         if is_of(item, object) {
