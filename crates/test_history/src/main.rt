@@ -1,7 +1,7 @@
 //! Worked examples of streams and lines, of histories and of versions, by public calls alone.
 //!
-//! Its standard input has the rows, a section a subject. What it writes are their counts, and each
-//! row that is answered otherwise.
+//! The rows come on standard input, a section for each subject. The program writes how many there
+//! are, and each row that is answered otherwise.
 //!
 //! - `calls`: questions that stand alone, with `lines`, `text_lines`, `faults`, and all small
 //!   histories (`small_histories`, `small_aims`);
