@@ -1,6 +1,6 @@
 -- What the words of the command line ask for, by what clap reads of them (this project's choice).
 use Rattle.std.specs.Prelude.{◌≡◌, ◌≢◌, ◌⊎◌, ◌&&◌, ◌||◌, ℕ, ℤ, pos, Bool, false, List, []}
-use Rattle.std.specs.Prelude.{Option, Some, None, Result, Ok, Err, codes, is_some, FitsSigned}
+use Rattle.std.specs.Prelude.{Option, Some, None, Result, Ok, Err, codes, cond, is_some, FitsSigned}
 use Rattle.std.specs.Prelude.{IsTrue, MatchOption}
 use Rattle.std.specs.Str.{bytes_eq}
 use Rattle.std.specs.Int.{w32}
@@ -14,8 +14,11 @@ use Rattle.gf_plane.specs.declared.point.Point.{Point}
 use Rattle.gf_ops.specs.declared.op.OpId.{OpId}
 use Rattle.gf_scanline.specs.Frames.{Sides}
 use Rattle.gf_scanline.specs.Windows.{View}
+use Rattle.gf_json.specs.declared.notation.Notation.{Notation}
+use Rattle.gf_json.specs.declared.notation.Notation.TheVariants.{Json, Words}
+use Rattle.gf_studio.specs.declared.inspecting.Inspection.{Inspection}
 use Rattle.gf_studio.specs.declared.inspecting.Query.{Query}
-use Rattle.gf_studio.specs.declared.inspecting.Query.TheVariants.{Object, At}
+use Rattle.gf_studio.specs.declared.inspecting.Query.TheVariants.{All, At, Object, Several}
 use Rattle.gf_studio.specs.declared.painting.Extent.{Extent}
 use Rattle.gf_studio.specs.declared.painting.Extent.TheVariants as extent
 use Rattle.gf_command.specs.declared.runs.Asked.{Asked}
@@ -144,10 +147,18 @@ IsChecked rows = IsEditorOrNone (first_of (codes "site") rows)
 abbrev pub AskedQuery : Type 0
 AskedQuery = Result Query QueryFault
 
--- what the text of an object asks for
+-- the text names no objects: it is none of the two words, and spells no id
+pub record NamesNone (text : Text) : Type 0 where
+  pub not_all : bytes_eq text (codes "all") ≡ false
+  pub not_several : bytes_eq text (codes "several") ≡ false
+  pub no_id : (i : OpId) → ¬ (SpellsId text i)
+
+-- what the text of objects asks for
 abbrev pub AsksObject : Text → AskedQuery → Type 0
+AsksObject text (Ok All) = IsTrue (bytes_eq text (codes "all"))
+AsksObject text (Ok Several) = IsTrue (bytes_eq text (codes "several"))
 AsksObject text (Ok (Object o)) = SpellsId text o.0
-AsksObject text (Err Unreadable) = (i : OpId) → ¬ (SpellsId text i)
+AsksObject text (Err Unreadable) = NamesNone text
 AsksObject text other = ⊥
 
 -- what the text of a point asks for
@@ -168,6 +179,15 @@ AsksQuery (Some object) (Some point) answer = answer ≡ Err NotOne
 abbrev pub IsInspected : List Row → AskedQuery → Type 0
 IsInspected rows = AsksQuery (first_of (codes "object") rows) (first_of (codes "at") rows)
 
+-- the notation that these rows ask for
+abbrev pub asked_notation : List Row → Notation
+asked_notation rows = cond (has_flag (codes "json") rows) Json Words
+
+-- what the rows of the command `inspect` ask for, and in which notation
+abbrev pub IsInspection : List Row → Result Inspection QueryFault → Type 0
+IsInspection rows (Ok i) = IsInspected rows (Ok i.query) × (i.notation ≡ asked_notation rows)
+IsInspection rows (Err fault) = IsInspected rows (Err fault)
+
 -- the command of this name was met, with rows of which the property holds
 abbrev pub Meets : Option (Text × List Row) → Text → (List Row → Type 0) → Type 0
 Meets met name P = (rows : List Row) × (met ≡ Some (name, rows)) × P rows
@@ -178,17 +198,18 @@ AsksRun met (Fig workers) = Meets met (codes "fig") (λ rows. IsFig rows (Fig wo
 AsksRun met (NamedFig workers) = Meets met (codes "fig") (λ rows. IsFig rows (NamedFig workers))
 AsksRun met (Paint canvas) = Meets met (codes "paint") (λ rows. IsCanvas rows canvas)
 AsksRun met (Repaint canvas) = Meets met (codes "repaint") (λ rows. IsCanvas rows canvas)
-AsksRun met (Inspect query workers) =
-    Meets met (codes "inspect") (λ rows. IsInspected rows (Ok query) × HasWorkers rows workers)
+AsksRun met (Inspect inspection workers) =
+    Meets met (codes "inspect") (λ rows. IsInspection rows (Ok inspection)
+    × HasWorkers rows workers)
 AsksRun met (Import editor) =
     Meets met (codes "import") (λ rows. HasNatural rows (codes "site") editor.site)
 AsksRun met (Edit editor) =
     Meets met (codes "edit") (λ rows. HasNatural rows (codes "site") editor.site)
 AsksRun met (Take editor after named workers) =
     Meets met (codes "take") (λ rows. IsTake rows (Take editor after named workers))
-AsksRun met (Status check workers) =
-    Meets met (codes "status") (λ rows.
-    (check ≡ has_flag (codes "check") rows) × HasWorkers rows workers)
+AsksRun met (Status check notation workers) =
+    Meets met (codes "status") (λ rows. (check ≡ has_flag (codes "check") rows)
+    × (notation ≡ asked_notation rows) × HasWorkers rows workers)
 AsksRun met (Check editor) = Meets met (codes "check") (λ rows. IsChecked rows editor)
 AsksRun met (Session sites) =
     Meets met (codes "session") (λ rows. HasNatural rows (codes "sites") sites)
@@ -199,7 +220,7 @@ IsAsked met (asked.Run run) = AsksRun met run
 IsAsked met (asked.Mistake mistake.PlacedFit) =
     (name : Text) × Meets met name (λ rows. IsTrue (is_placed_fit rows))
 IsAsked met (asked.Mistake (mistake.Query fault)) =
-    Meets met (codes "inspect") (λ rows. IsInspected rows (Err fault))
+    Meets met (codes "inspect") (λ rows. IsInspection rows (Err fault))
 
 -- clap takes the words
 abbrev pub AreTaken : List Text → Type 0

@@ -48,7 +48,7 @@ fig = flag (codes "named") ∷ reading ∷ []
 
 -- the options of a query
 abbrev pub query : List Rule
-query = text (codes "object") ∷ text (codes "at") ∷ reading ∷ []
+query = text (codes "object") ∷ text (codes "at") ∷ flag (codes "json") ∷ reading ∷ []
 
 -- which site makes the operations of a run, which has to be given
 abbrev pub author : Rule
@@ -65,7 +65,7 @@ drawing =
 
 -- the options of a status
 abbrev pub check : List Rule
-check = flag (codes "check") ∷ reading ∷ []
+check = flag (codes "check") ∷ flag (codes "json") ∷ reading ∷ []
 
 -- the option of a check, which may be left out
 abbrev pub editor : List Rule

@@ -60,14 +60,14 @@ Answers (Paint canvas) bytes old new =
     WritesExtent input.Lines canvas.extent bytes old new
 Answers (Repaint canvas) bytes old new =
     WritesExtent input.Fig canvas.extent bytes old new
-Answers (Inspect query workers) bytes old new = WritesAnswer query bytes old new
+Answers (Inspect inspection workers) bytes old new = WritesAnswer inspection bytes old new
 Answers (Import editor) bytes old new = WritesImport editor.site bytes old new
 Answers (Edit editor) bytes old new =
     (made : Option Made) × WritesEdit editor.site bytes made old new
 Answers (Take editor after named workers) bytes old new =
     (taken : Taken) × WritesTake (request_of editor after named) bytes taken old new
-Answers (Status check workers) bytes old new =
-    (state : State) × (check ≡ true → state ≡ Clean) × WritesStatus bytes state old new
+Answers (Status check notation workers) bytes old new =
+    (state : State) × (check ≡ true → state ≡ Clean) × WritesStatus notation bytes state old new
 Answers (Check editor) bytes old new =
     WritesCheck (site_of editor) bytes verdict.Clean old new
 Answers (Session sites) bytes old new = WritesSession sites bytes old new
@@ -81,13 +81,14 @@ AnswersPrefix (Paint canvas) bytes old new =
     WritesExtentPrefix input.Lines canvas.extent bytes old new
 AnswersPrefix (Repaint canvas) bytes old new =
     WritesExtentPrefix input.Fig canvas.extent bytes old new
-AnswersPrefix (Inspect query workers) bytes old new =
-    WritesPrefix (AnswersQuery query bytes) old new
+AnswersPrefix (Inspect inspection workers) bytes old new =
+    WritesPrefix (AnswersQuery inspection bytes) old new
 AnswersPrefix (Import editor) bytes old new = WritesPrefix (Imports editor.site bytes) old new
 AnswersPrefix (Edit editor) bytes old new = WritesPrefix (IsEditOf editor.site bytes) old new
 AnswersPrefix (Take editor after named workers) bytes old new =
     WritesPrefix (IsTakeOf (request_of editor after named) bytes) old new
-AnswersPrefix (Status check workers) bytes old new = WritesPrefix (IsStatusOf bytes) old new
+AnswersPrefix (Status check notation workers) bytes old new =
+    WritesPrefix (IsStatusOf notation bytes) old new
 AnswersPrefix (Check editor) bytes old new =
     WritesPrefix (AnswersText (site_of editor) bytes) old new
 AnswersPrefix (Session sites) bytes old new = WritesPrefix (TellsSession sites bytes) old new
@@ -95,8 +96,8 @@ AnswersPrefix (Session sites) bytes old new = WritesPrefix (TellsSession sites b
 -- known bytes grow from old to new by what the run asks for, which is to be seen to. Something
 -- waits or differs, where that is asked for, or there is a fault
 abbrev pub AnswersOpen : Run → List ℕ → Option (List ℕ) → Option (List ℕ) → Type 0
-AnswersOpen (Status check workers) bytes old new =
-    (check ≡ true) × WritesStatus bytes Open old new
+AnswersOpen (Status check notation workers) bytes old new =
+    (check ≡ true) × WritesStatus notation bytes Open old new
 AnswersOpen (Check editor) bytes old new =
     WritesCheck (site_of editor) bytes verdict.Faulty old new
 AnswersOpen other bytes old new = ⊥

@@ -143,9 +143,10 @@ fn answer<T: Threads + Wait + Sync, R: Source, W: Sink>(
             let told = paint(rt, alloc, source, output, Format::Fig, canvas)?;
             return Ok(Outcome::Painted(told));
         }
-        Run::Inspect { query, workers } => {
-            inspect_run(rt, alloc, source, output, query, workers.count)?
-        }
+        Run::Inspect {
+            inspection,
+            workers,
+        } => inspect_run(rt, alloc, source, output, inspection, workers.count)?,
         Run::Import(editor) => import_run(alloc, source, output, editor.site)?,
         Run::Edit(editor) => {
             let made = edit_run(alloc, source, output, editor.site)?;
@@ -165,8 +166,12 @@ fn answer<T: Threads + Wait + Sync, R: Source, W: Sink>(
             let taken = take_run(rt, alloc, source, output, request, workers.count)?;
             return Ok(Outcome::Taken(taken));
         }
-        Run::Status { check, workers } => {
-            let state = status_run(rt, alloc, source, output, workers.count)?;
+        Run::Status {
+            check,
+            notation,
+            workers,
+        } => {
+            let state = status_run(rt, alloc, source, output, notation, workers.count)?;
             match state {
                 State::Open if check => return Ok(Outcome::Open),
                 State::Open | State::Clean => {}

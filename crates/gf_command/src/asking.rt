@@ -5,7 +5,8 @@ ghost use Rattle.std.specs.Prelude.{IfErr, IfOk, IfSome, OnOk, option_map, strin
 ghost use Rattle.clap.specs.Words.{HasKind, fault_of, found_of, rows_of};
 ghost use Rattle.clap.specs.Words.{subcommand_of, subcommand_rows_of};
 ghost use Rattle.gf_command.specs.CommandLine as line;
-ghost use Rattle.gf_command.specs.Asking.{AreTaken, AsksQuery, HasNatural, HasNaturalOr};
+ghost use Rattle.gf_command.specs.Asking.{AreTaken, AsksObject, AsksQuery, HasNatural};
+ghost use Rattle.gf_command.specs.Asking.{HasNaturalOr, IsInspection, asked_notation};
 ghost use Rattle.gf_command.specs.Asking.{HasNaturalOrNone, HasWholeOr, HasWorkers};
 ghost use Rattle.gf_command.specs.Asking.{IsNaturalOrNone, IsTake};
 ghost use Rattle.gf_command.specs.Asking.{IsAsked, IsCanvas, IsChecked, IsEditorOf};
@@ -17,8 +18,9 @@ use crate::describing::program;
 use crate::querying::{spelt_id, spelt_point};
 use crate::runs::{Asked, Canvas, Editor, Mistake, QueryFault, Run, Workers};
 use clap::{ArgMatches, Error};
+use gf_json::Notation;
 use gf_ops::ObjectId;
-use gf_studio::{Extent, Frame, Query, Window};
+use gf_studio::{Extent, Frame, Inspection, Query, Window};
 use std::alloc::Global;
 
 /// Reads the words, the first of which is the program's name. The answer is none where an option
@@ -52,9 +54,9 @@ fn read_matches(matches: &ArgMatches<'_>) -> Option<Asked>
         "fig" => Some(Asked::Run(fig_of(matches)?)),
         "paint" => Some(Asked::Run(Run::Paint(canvas_of(matches)?))),
         "repaint" => Some(Asked::Run(Run::Repaint(canvas_of(matches)?))),
-        "inspect" => match query_of(matches) {
-            Ok(query) => Some(Asked::Run(Run::Inspect {
-                query,
+        "inspect" => match inspection_of(matches) {
+            Ok(inspection) => Some(Asked::Run(Run::Inspect {
+                inspection,
                 workers: workers_of(matches)?,
             })),
             Err(fault) => Some(Asked::Mistake(Mistake::Query(fault))),
@@ -64,6 +66,7 @@ fn read_matches(matches: &ArgMatches<'_>) -> Option<Asked>
         "take" => Some(Asked::Run(take_of(matches)?)),
         "status" => Some(Asked::Run(Run::Status {
             check: has_flag(matches, "check"),
+            notation: notation_of(matches),
             workers: workers_of(matches)?,
         })),
         "check" => Some(Asked::Run(Run::Check(checked_of(matches)?))),
@@ -116,6 +119,26 @@ fn natural_or_none(text: Option<&str>) -> Option<Option<u32>>
     }
 }
 
+/// What an inspection asks for.
+fn inspection_of(matches: &ArgMatches<'_>) -> Result<Inspection, QueryFault>
+    ensures { IsInspection (rows_of (found_of matches.now)) result }
+{
+    let query = query_of(matches)?;
+    let notation = notation_of(matches);
+    Ok(Inspection { query, notation })
+}
+
+/// Whether lines are to be JSON.
+fn notation_of(matches: &ArgMatches<'_>) -> Notation
+    ensures { result ≡ asked_notation (rows_of (found_of matches.now)) }
+{
+    if has_flag(matches, "json") {
+        Notation::Json
+    } else {
+        Notation::Words
+    }
+}
+
 /// The query that one of the two options asks for.
 fn query_of(matches: &ArgMatches<'_>) -> Result<Query, QueryFault>
     ensures { IsInspected (rows_of (found_of matches.now)) result }
@@ -129,15 +152,28 @@ fn asked_of(object: Option<&str>, at: Option<&str>) -> Result<Query, QueryFault>
         (option_map (λ t. t.now) at.entry) result }
 {
     match (object, at) {
-        (Some(text), None) => match spelt_id(text) {
-            Some(id) => Ok(Query::Object(ObjectId(id))),
-            None => Err(QueryFault::Unreadable),
-        },
+        (Some(text), None) => objects_asked(text),
         (None, Some(text)) => match spelt_point(text) {
             Some(point) => Ok(Query::At(point)),
             None => Err(QueryFault::Unreadable),
         },
         (None, None) | (Some(_), Some(_)) => Err(QueryFault::NotOne),
+    }
+}
+
+/// The query that the text of objects asks for.
+fn objects_asked(text: &str) -> Result<Query, QueryFault>
+    ensures { AsksObject text.now result }
+{
+    if text == "all" {
+        return Ok(Query::All);
+    }
+    if text == "several" {
+        return Ok(Query::Several);
+    }
+    match spelt_id(text) {
+        Some(id) => Ok(Query::Object(ObjectId(id))),
+        None => Err(QueryFault::Unreadable),
     }
 }
 

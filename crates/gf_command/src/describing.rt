@@ -1,6 +1,6 @@
 //! The command line as clap reads it and its help tells it.
 
-ghost use Rattle.std.specs.Prelude.{◌≡◌, IfOk, map};
+ghost use Rattle.std.specs.Prelude.{◌≡◌, IfOk, codes, map};
 ghost use Rattle.clap.specs.Walk.{rule_of};
 ghost use Rattle.clap.specs.Simple.{app_of, shape_of};
 ghost use Rattle.gf_command.specs.CommandLine as line;
@@ -53,8 +53,8 @@ const RUNS: [Usage; 10] = [
     },
     Usage {
         name: "inspect",
-        about: "Read operation lines from standard input and write the versions of an object, or what is \
-                on top at a point; one of the two is given",
+        about: "Read operation lines from standard input and write the versions of one object or of many, \
+                or what is on top at a point; one of the two is given",
         example: "Example: figgroup inspect --object 1.2 < edits.jsonl",
         takes: Takes::Query,
     },
@@ -243,9 +243,9 @@ fn query<'a>(alloc: Global) -> Result<Vec<Arg<'a>>, AllocError>
         text(
             alloc,
             "object",
-            "SITE.SEQ",
+            "SITE.SEQ|several|all",
             "Tell the versions of this object, hidden ones too, topmost first; SITE is 1 to 8, SEQ 1 to \
-             10,000",
+             10,000; or those of each object with several versions, or those of all objects",
         ),
         text(
             alloc,
@@ -254,6 +254,7 @@ fn query<'a>(alloc: Global) -> Result<Vec<Arg<'a>>, AllocError>
             "Tell the version on top at this point, as --at=-5,7; X and Y are -2,147,483,648 to \
              2,147,483,647",
         ),
+        json(alloc),
         reading(alloc),
     ]?)
 }
@@ -307,8 +308,16 @@ fn check<'a>(alloc: Global) -> Result<Vec<Arg<'a>>, AllocError>
              where a change that nothing shows did not know what hides it, or where an object was hidden by \
              two who did not know of each other",
         ),
+        json(alloc),
         reading(alloc),
     ]?)
+}
+
+/// Whether lines are JSON.
+fn json<'a>(alloc: Global) -> Arg<'a>
+    ensures { rule_of result ≡ line.flag (codes "json") }
+{
+    flag(alloc, "json", "Write lines of JSON, for programs")
 }
 
 /// The option of a check.

@@ -3,7 +3,8 @@
 ghost use Rattle.std.specs.Prelude.{◌≤◌};
 ghost use Rattle.gf_ops.specs.OperationOrder.{IsSite};
 
-use gf_studio::{Extent, Query};
+use gf_json::Notation;
+use gf_studio::{Extent, Inspection};
 
 /// What the words ask for.
 #[derive(Clone, Copy)]
@@ -18,7 +19,7 @@ pub enum Run {
     Repaint(Canvas),
     /// What the history of operation lines answers to a query.
     Inspect {
-        query: Query,
+        inspection: Inspection,
         workers: Workers,
     },
     /// The commands of this site that create the figures of a FIG text.
@@ -37,6 +38,7 @@ pub enum Run {
     /// differs is told by the status too.
     Status {
         check: bool,
+        notation: Notation,
         workers: Workers,
     },
     /// What is wrong with operation lines, and with the command lines of this site where one is
@@ -66,7 +68,7 @@ pub enum Mistake {
 pub enum QueryFault {
     /// Neither an object nor a point is given, or both are.
     NotOne,
-    /// The text is no object, or no point.
+    /// The text names no objects, or no point.
     Unreadable,
 }
 

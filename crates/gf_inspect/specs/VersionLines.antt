@@ -1,5 +1,5 @@
--- The texts of versions and of what is on top at a point (this project's choice; numbers are
--- decimal).
+-- The texts of versions and of what is on top at a point, in words (this project's choice; numbers
+-- are decimal).
 use Rattle.std.specs.Prelude.{ℕ, Bool, true, false, List, [], ◌∷◌, ◌++◌, Option, Some}
 use Rattle.std.specs.Prelude.{None, flat_map, codes}
 use Rattle.std.specs.Fmt.{decimal, signed_decimal}
@@ -79,6 +79,10 @@ look_text v = colour_text v.colour ++ layer_text v.key.layer ++ codes " " ++ sho
 unfoldable pub version_line : Version → List ℕ
 version_line v = codes "version " ++ name_text v.key.object v.key.ops ++ form_text v ++ look_text v
     ++ codes "\n"
+
+-- the line that the object o has more than 1,000 versions
+unfoldable pub many_line : ObjectId → List ℕ
+many_line o = codes "object " ++ id_text o.0 ++ codes " has more than 1000 versions\n"
 
 -- the name of what is on top
 abbrev pub top_text : Option VersionName → List ℕ

@@ -1,11 +1,11 @@
-//! The texts of versions and of what is on top.
+//! The texts of versions and of what is on top, in words.
 
-ghost use Rattle.std.specs.Prelude.{◌≡◌, ◌++◌, IfOk, OnOk, flat_map, option_copied};
+ghost use Rattle.std.specs.Prelude.{◌≡◌, ◌++◌, IfOk, OnOk, option_copied};
 ghost use Rattle.gf_inspect.specs.VersionLines.{ids_text, name_text};
 ghost use Rattle.gf_inspect.specs.VersionLines.{point_text, corner_text, kind_word, size_text};
 ghost use Rattle.gf_inspect.specs.VersionLines.{points_text, measure_text, colour_text, layer_text};
 ghost use Rattle.gf_inspect.specs.VersionLines.{shown_word, form_text, look_text, version_line};
-ghost use Rattle.gf_inspect.specs.VersionLines.{top_text, top_line};
+ghost use Rattle.gf_inspect.specs.VersionLines.{many_line, top_text, top_line};
 
 use crate::VersionName;
 use gf_base::push_number;
@@ -15,20 +15,8 @@ use gf_shape::{OutOfMemory, Point, Rgb};
 use gf_versions::Version;
 use std::alloc::{AllocError, Global};
 
-/// A line for each version, in their order. It has object, ids, kind, place, size or points,
-/// colour, layer, and whether the version is shown.
-pub fn lines(alloc: Global, versions: &[Version]) -> Result<Vec<u8>, OutOfMemory>
-    ensures { IfOk result (λ text. text.items ≡ flat_map version_line versions.now) }
-{
-    let mut out = Vec::new(alloc);
-    for version in versions {
-        push_version(&mut out, version)?;
-    }
-    Ok(out)
-}
-
 /// The line of what is on top at a point: a version, or white.
-pub fn top_line(
+pub(crate) fn top_line(
     alloc: Global,
     point: Point,
     name: Option<&VersionName>,
@@ -44,6 +32,16 @@ pub fn top_line(
     Ok(out)
 }
 
+/// Appends that an object has more versions than are listed.
+#[tactic(auto, unfolding(crate::specs::VersionLines::many_line))]
+pub(crate) fn push_many(out: &mut Vec<u8>, object: ObjectId) -> Result<(), AllocError>
+    ensures { OnOk result (out.new.items ≡ out.old.items ++ many_line object) }
+{
+    out.extend_from_slice(b"object ")?;
+    push_id(out, object.0)?;
+    out.extend_from_slice(b" has more than 1000 versions\n")
+}
+
 fn push_top(out: &mut Vec<u8>, name: Option<&VersionName>) -> Result<(), AllocError>
     ensures { OnOk result (out.new.items ≡ out.old.items ++ top_text (option_copied name.entry)) }
 {
@@ -53,8 +51,9 @@ fn push_top(out: &mut Vec<u8>, name: Option<&VersionName>) -> Result<(), AllocEr
     }
 }
 
+/// Appends the line of a version.
 #[tactic(auto, unfolding(crate::specs::VersionLines::version_line))]
-fn push_version(out: &mut Vec<u8>, version: &Version) -> Result<(), AllocError>
+pub(crate) fn push_version(out: &mut Vec<u8>, version: &Version) -> Result<(), AllocError>
     ensures { OnOk result (out.new.items ≡ out.old.items ++ version_line version.now) }
 {
     out.extend_from_slice(b"version ")?;

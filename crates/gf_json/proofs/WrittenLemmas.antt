@@ -28,14 +28,14 @@ use Rattle.gf_json.specs.WrittenScripts.{script_data}
 
 -- ---- no float
 
-is_float-of_integer : (z : ℤ) → is_float (of_integer z) ≡ false
+pub is_float-of_integer : (z : ℤ) → is_float (of_integer z) ≡ false
 is_float-of_integer (pos n) = refl
 is_float-of_integer (negsuc n) = refl
 
-has_float-point_data : (p : Point) → has_float (point_data p) ≡ false
+pub has_float-point_data : (p : Point) → has_float (point_data p) ≡ false
 has_float-point_data p = rw (is_float-of_integer p.x, is_float-of_integer p.y) refl
 
-items_have_float-map : {A : Type 0} (f : A → Data) → ((a : A) → has_float (f a) ≡ false)
+pub items_have_float-map : {A : Type 0} (f : A → Data) → ((a : A) → has_float (f a) ≡ false)
     → (xs : List A) → items_have_float (items_of (map f xs)) ≡ false
 items_have_float-map f h [] = refl
 items_have_float-map f h (x ∷ xs) = rw (h x) (items_have_float-map f h xs)
@@ -43,10 +43,10 @@ items_have_float-map f h (x ∷ xs) = rw (h x) (items_have_float-map f h xs)
 has_float-clock_data : (c : Clock) → has_float (clock_data c) ≡ false
 has_float-clock_data c = items_have_float-map natural_data (λ n. refl) c.0
 
-has_float-points_data : (ps : List Point) → has_float (points_data ps) ≡ false
+pub has_float-points_data : (ps : List Point) → has_float (points_data ps) ≡ false
 has_float-points_data ps = items_have_float-map point_data has_float-point_data ps
 
-has_float-ids_data : (ids : List OpId) → has_float (ids_data ids) ≡ false
+pub has_float-ids_data : (ids : List OpId) → has_float (ids_data ids) ≡ false
 has_float-ids_data ids = items_have_float-map name_data (λ i. refl) ids
 
 has_float-value_data : (v : Value) → has_float (value_data v) ≡ false

@@ -13,5 +13,6 @@ pub mod WrittenValues
 pub mod WrittenLines
 pub mod WrittenMembers
 pub mod WrittenScripts
+pub mod Notations
 pub mod CheckedPoints
 pub mod CheckedIds

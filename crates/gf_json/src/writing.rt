@@ -1,7 +1,8 @@
 //! Operations and commands as lines.
 
-ghost use Rattle.std.specs.Prelude.{◌≡◌, Ok, IfOk, OnOk, length, string_bytes};
+ghost use Rattle.std.specs.Prelude.{◌≡◌, ◌++◌, Ok, false, IfOk, OnOk, length, string_bytes};
 ghost use Rattle.serde_json.specs.View.{view, members_view};
+ghost use Rattle.serde_json.specs.Written.{has_float};
 ghost use Rattle.gf_ops.specs.Limits.{IsInRange};
 ghost use Rattle.gf_json.specs.OperationLines.{denoted};
 ghost use Rattle.gf_json.specs.ScriptLines.{IsScriptInRange, script_denoted};
@@ -10,12 +11,15 @@ ghost use Rattle.gf_json.specs.WrittenLines.{creation_data, setting_data, data_o
 ghost use Rattle.gf_json.specs.WrittenMembers.{put_all, begun};
 ghost use Rattle.gf_json.specs.WrittenScripts.{authored_members, command_members, script_data};
 ghost use Rattle.gf_json.specs.WrittenScripts.{script_text};
+ghost use Rattle.gf_json.specs.Notations.{json_line};
 
 mod members;
 mod values;
 
-use crate::writing::members::{put_form, put_look, put_setting};
-use crate::writing::values::{clock_data, name_data};
+pub use crate::writing::members::put_form;
+use crate::writing::members::{put_look, put_setting};
+use crate::writing::values::clock_data;
+pub use crate::writing::values::{colour_data, ids_data, name_data, point_data};
 use crate::{Command, ScriptLine};
 use gf_base::OutOfMemory;
 use gf_ops::{Change, Ids, ObjectId, Op, Start};
@@ -38,6 +42,17 @@ pub fn script_line(alloc: Global, script: &ScriptLine) -> Result<String, OutOfMe
         → script_denoted (string_bytes line) ≡ Ok script.now) }
 {
     Ok(command_line(alloc, script)?)
+}
+
+/// Appends the text of a value that has no float, and a line end.
+pub fn push_line(out: &mut Vec<u8>, alloc: Global, value: &Value) -> Result<(), AllocError>
+    requires { has_float (view value.now) ≡ false }
+    ensures { OnOk result (out.new.items ≡ out.old.items ++ json_line (view value.now)) }
+{
+    let text = value.to_string(alloc)?;
+    out.extend_from_slice(text.as_bytes())?;
+    out.push(b'\n')?;
+    Ok(())
 }
 
 fn line(alloc: Global, op: &Op) -> Result<String, AllocError>

@@ -1,3 +1,4 @@
 pub mod OneVersionLemmas
 mod TellingLemmas
 mod LackingLemmas
+pub mod ObjectLemmas

@@ -2,3 +2,4 @@ pub mod Telling
 pub mod RisingIds
 pub mod LastConflict
 pub mod Lacking
+pub mod Objects

@@ -8,6 +8,7 @@ use Rattle.std.proofs.lemmas.Bool.{cases_lt, leb-true}
 use Rattle.std.proofs.lemmas.List.{length-append, length-map}
 use Rattle.std.proofs.lemmas.List.Elements.{Contains-append_left, Contains-append_right}
 use Rattle.gf_shape.specs.declared.any_shape.AnyShape.{AnyShape}
+use Rattle.gf_json.specs.declared.notation.Notation.{Notation}
 use Rattle.gf_ops.specs.declared.op.Op.{Op}
 use Rattle.gf_ops.specs.declared.op.ObjectId.{ObjectId}
 use Rattle.gf_ops.specs.declared.op.OpId.{OpId}
@@ -153,9 +154,9 @@ third true false c e = absurd cc
 third false b c e = absurd cc
 
 -- WHAT IS CLEAN has at most 1,000 visible versions
-pub clean_few : (h waiting : List Op) (text : List ℕ) → IsValid h → TellsStatus h waiting text Clean
-    → ¬ (HasMoreVisible h 1000)
-clean_few h waiting text valid t more =
+pub clean_few : (n : Notation) (h waiting : List Op) (text : List ℕ) → IsValid h
+    → TellsStatus n h waiting text Clean → ¬ (HasMoreVisible h 1000)
+clean_few n h waiting text valid t more =
     let ss = t.objects in
     let g = gathered h ss t.statuses.each 0 [] refl in
     let clean = clean_told (are_clean waiting ss) t.state_is in

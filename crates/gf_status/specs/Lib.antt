@@ -4,5 +4,6 @@ pub mod Hidings
 pub mod UnseenChanges
 pub mod ObjectStatuses
 pub mod StatusLines
+pub mod StatusJson
 pub mod StatusRun
 pub mod Setters

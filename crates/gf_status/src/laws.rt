@@ -1,6 +1,7 @@
 //! The law of a status that is clean, the contract of a function that does nothing.
 
 ghost use Rattle.std.specs.Prelude.{ℕ, List};
+ghost use Rattle.gf_json.specs.declared.notation.Notation.{Notation};
 ghost use Rattle.gf_ops.specs.declared.op.Op.{Op};
 ghost use Rattle.gf_ops.specs.ValidHistory.{IsValid};
 ghost use Rattle.gf_versions.specs.declared.ranking.TheConstants.{MOST_VERSIONS};
@@ -11,6 +12,6 @@ ghost use Rattle.gf_status.specs.StatusRun.{TellsStatus};
 /// A history whose status is clean has no more visible versions than a drawing takes, so no export
 /// refuses it for these.
 pub fn a_clean_history_has_no_more_versions_than_a_drawing()
-    ensures { (h waiting : List Op) (text : List ℕ) → IsValid h →
-        TellsStatus h waiting text state.Clean → ¬ (HasMoreVisible h MOST_VERSIONS) }
+    ensures { (notation : Notation) (h waiting : List Op) (text : List ℕ) → IsValid h →
+        TellsStatus notation h waiting text state.Clean → ¬ (HasMoreVisible h MOST_VERSIONS) }
 {}

@@ -13,6 +13,7 @@ mod counting;
 mod differing;
 mod hidden;
 mod ids;
+mod json;
 mod laws;
 mod lines;
 mod objects;

@@ -1,4 +1,4 @@
-//! The text of a status.
+//! The text of a status in words.
 
 ghost use Rattle.std.specs.Prelude.{◌≡◌, ◌++◌, [], IfOk, OnOk, cond, flat_map, map, nat_le};
 ghost use Rattle.gf_ops.specs.declared.op.Op.{Op};
@@ -18,9 +18,9 @@ use gf_versions::MOST_VERSIONS;
 use std::alloc::{AllocError, Global};
 
 /// The numbers of all sites.
-const SITES: [u8; 8] = [1, 2, 3, 4, 5, 6, 7, 8];
+pub(crate) const SITES: [u8; 8] = [1, 2, 3, 4, 5, 6, 7, 8];
 
-/// The text of a status: of a history, of what waits behind it, and of its objects.
+/// The text of a status in words: of a history, of what waits behind it, and of its objects.
 pub(crate) fn status_text(
     alloc: Global,
     history: &History,
@@ -194,22 +194,22 @@ fn push_difference(
     out.extend_from_slice(b"object ")?;
     push_id(out, object.0)?;
     out.push(b' ')?;
-    out.extend_from_slice(attribute_word(difference.attribute))?;
+    out.extend_from_slice(attribute_word(difference.attribute).as_bytes())?;
     push_spaced_ids(out, difference.givers.as_slice())?;
     out.push(b'\n')?;
     Ok(())
 }
 
-fn attribute_word(attribute: Attr) -> &'static [u8]
+pub(crate) fn attribute_word(attribute: Attr) -> &'static str
     ensures { result.now ≡ attribute_word attribute }
 {
     match attribute {
-        Attr::Place => b"place",
-        Attr::Points => b"points",
-        Attr::Size => b"size",
-        Attr::Colour => b"colour",
-        Attr::Layer => b"layer",
-        Attr::Shown => b"shown",
+        Attr::Place => "place",
+        Attr::Points => "points",
+        Attr::Size => "size",
+        Attr::Colour => "colour",
+        Attr::Layer => "layer",
+        Attr::Shown => "shown",
     }
 }
 

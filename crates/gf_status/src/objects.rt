@@ -1,8 +1,6 @@
 //! The status of each object of a history.
 
-ghost use Rattle.std.specs.Prelude.{◌≡◌, IfOk, filter, is_some, map};
-ghost use Rattle.gf_ops.specs.declared.op.Op.{Op};
-ghost use Rattle.gf_ops.specs.Attribute.{made_kind};
+ghost use Rattle.std.specs.Prelude.{◌≡◌, IfOk, map};
 ghost use Rattle.gf_groups.specs.declared.group.Group.{Group};
 ghost use Rattle.gf_groups.specs.Versions.{IsMade};
 ghost use Rattle.gf_status.specs.ObjectStatuses.{AreStatuses, IsObjectStatus};
@@ -10,8 +8,8 @@ ghost use Rattle.gf_status.specs.ObjectStatuses.{AreStatuses, IsObjectStatus};
 use crate::differing::{Difference, differences};
 use crate::hidden::hidden_of;
 use gf_base::OutOfMemory;
-use gf_names::rising;
-use gf_ops::{Change, History, Ids, ObjectId, Op, OpId};
+use gf_names::objects;
+use gf_ops::{Ids, ObjectId};
 use gf_table::Versions;
 use gf_versions::MOST_VERSIONS;
 use gf_visible::visible_groups;
@@ -45,37 +43,12 @@ pub fn object_statuses(
     ensures { IfOk result (λ found. AreStatuses versions.now found.items) }
 {
     let history = versions.history();
-    let made = made(alloc, history)?;
-    let ids = rising(alloc, &made)?;
+    let ids = objects(alloc, history)?;
     let mut found = Vec::new(alloc);
     for id in ids.as_slice() {
         found.push(object_status(alloc, versions, ObjectId(*id))?)?;
     }
     Ok(found)
-}
-
-/// The names of all objects, in the order of their creations.
-fn made(alloc: Global, history: &History) -> Result<Vec<OpId>, OutOfMemory>
-    ensures { IfOk result (λ ids. ids.items ≡ map (λ (a : Op). a.id)
-        (filter (λ (a : Op). is_some (made_kind a.change)) history.now.ops)) }
-{
-    let mut ids = Vec::new(alloc);
-    for op in history.ops() {
-        if makes(op) {
-            ids.push(op.id)?;
-        }
-    }
-    Ok(ids)
-}
-
-/// Whether the operation makes an object.
-fn makes(op: &Op) -> bool
-    ensures { result ≡ is_some (made_kind op.now.change) }
-{
-    match &op.change {
-        Change::Create(_) => true,
-        Change::Set { .. } => false,
-    }
 }
 
 /// The status of an object that the history made.

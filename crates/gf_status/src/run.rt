@@ -6,13 +6,16 @@ ghost use Rattle.gf_run.specs.RefusedRuns.{IsBetween};
 ghost use Rattle.gf_run.specs.RefusedRuns.{RefusesReading};
 ghost use Rattle.gf_run.specs.RunAnswers.{LeavesSink, ReadsInput};
 ghost use Rattle.gf_status.specs.StatusRun.{DenotesStatus, IsStatusOf, TellsStatus, WritesStatus};
+ghost use Rattle.gf_status.specs.StatusRun.{status_in};
 ghost use Rattle.gf_status.specs.StatusLines.{are_clean, is_at_most_one, is_clean, state_of};
 
 use crate::counting::shown_in;
+use crate::json::status_json;
 use crate::lines::status_text;
 use crate::{ObjectStatus, State, object_statuses};
 use gf_base::OutOfMemory;
-use gf_ops::{Op, OpId};
+use gf_json::Notation;
+use gf_ops::{History, Op, OpId};
 use gf_replay::read_replica;
 use gf_run::{StudioError, input};
 use gf_site::Replica;
@@ -32,19 +35,21 @@ struct Status {
 /// It has a line for each site with operations, and one for each operation that waits. The lines of
 /// an object say how many versions it has, and which attributes differ among the visible ones. They
 /// name hidings of a hidden object that crossed, and who changed what is hidden without knowing it.
-/// The last line says where more versions are shown than a drawing has. The answer is whether
-/// something waits or is open. All is read before the first write.
+/// The last line says where more versions are shown than a drawing has. As JSON each object has one
+/// line, and the last line has how many versions are shown, and whether the status is clean. The
+/// answer is whether something waits or is open. All is read before the first write.
 pub fn status_run<T: Threads + Sync, R: Source, W: Sink>(
     rt: &T,
     alloc: Global,
     source: &mut R,
     sink: &mut W,
+    notation: Notation,
     workers: u8,
 ) -> Result<State, StudioError>
     requires { (1 ≤ workers) × (workers ≤ 16) }
     // What is written is the status of the history that the bytes denote.
     ensures tells { IfOk result (λ state. IfSome (R.left source.old) (λ bytes.
-        WritesStatus bytes state (W.taken sink.old) (W.taken sink.new))) }
+        WritesStatus notation bytes state (W.taken sink.old) (W.taken sink.new))) }
 
     // The same as `fig_run` promises, with no drawing.
     ensures source { ReadsInput R.Source source.old source.new result }
@@ -52,9 +57,10 @@ pub fn status_run<T: Threads + Sync, R: Source, W: Sink>(
         RefusesReading bytes e)) }
 
     // At most a prefix of the text is written, and that only where the sink failed.
-    ensures sink { LeavesSink W.Sink (R.left source.old) IsStatusOf sink.old sink.new result }
+    ensures sink { LeavesSink W.Sink (R.left source.old) (IsStatusOf notation) sink.old sink.new
+        result }
 {
-    let status = status_of_lines(rt, alloc, source, workers)?;
+    let status = status_of_lines(rt, alloc, source, notation, workers)?;
     match write_whole(sink, &status.text) {
         Ok(()) => Ok(status.state),
         Err(SinkFault) => Err(StudioError::WriteFailed),
@@ -66,18 +72,19 @@ fn status_of_lines<T: Threads + Sync, R: Source>(
     rt: &T,
     alloc: Global,
     source: &mut R,
+    notation: Notation,
     workers: u8,
 ) -> Result<Status, StudioError>
     requires { (1 ≤ workers) × (workers ≤ 16) }
     ensures ok { IfOk result (λ status. IfSome (R.left source.old) (λ bytes.
-        DenotesStatus bytes status.text.items status.state)) }
+        DenotesStatus notation bytes status.text.items status.state)) }
     ensures source { ReadsInput R.Source source.old source.new result }
     ensures refused { IfErr result (λ e. IfSome (R.left source.old) (λ bytes.
         RefusesReading bytes e)) }
     ensures no_write { IfErr result (λ e. e ≢ StudioError.WriteFailed) }
 {
     let bytes = input(alloc, source)?;
-    status_of(rt, alloc, bytes, workers)
+    status_of(rt, alloc, bytes, notation, workers)
 }
 
 /// The status of the history that these bytes denote.
@@ -85,31 +92,53 @@ fn status_of<T: Threads + Sync>(
     rt: &T,
     alloc: Global,
     bytes: Vec<u8>,
+    notation: Notation,
     workers: u8,
 ) -> Result<Status, StudioError>
     requires { (1 ≤ workers) × (workers ≤ 16) }
-    ensures ok { IfOk result (λ status. DenotesStatus bytes.items status.text.items status.state) }
+    ensures ok { IfOk result (λ status.
+        DenotesStatus notation bytes.items status.text.items status.state) }
     ensures refused { IfErr result (RefusesReading bytes.items) }
     ensures between { IfErr result IsBetween }
 {
     let replica = read_replica(rt, alloc, bytes, workers)?;
-    match tell(alloc, &replica) {
+    match tell(alloc, &replica, notation) {
         Ok(status) => Ok(status),
         Err(OutOfMemory) => Err(StudioError::OutOfMemory),
     }
 }
 
 /// The status of a replica's history.
-fn tell(alloc: Global, replica: &Replica) -> Result<Status, OutOfMemory>
+fn tell(alloc: Global, replica: &Replica, notation: Notation) -> Result<Status, OutOfMemory>
     ensures { IfOk result (λ status.
-        TellsStatus replica.now.ops replica.now.held status.text.items status.state) }
+        TellsStatus notation replica.now.ops replica.now.held status.text.items status.state) }
 {
     let history = replica.history();
     let waiting = replica.held_ops(alloc)?;
     let objects = object_statuses(alloc, &replica.versions())?;
-    let text = status_text(alloc, history, &waiting, &objects)?;
+    let text = status_in(alloc, notation, history, &waiting, &objects)?;
     let state = state_of(&waiting, &objects);
     Ok(Status { text, state })
+}
+
+/// The text of a status in this notation.
+fn status_in(
+    alloc: Global,
+    notation: Notation,
+    history: &History,
+    waiting: &[&Op],
+    objects: &[ObjectStatus],
+) -> Result<Vec<u8>, OutOfMemory>
+    ensures { IfOk result (λ text. text.items
+        ≡ status_in notation history.now.ops (map (λ a. a.now) waiting.now) objects.now) }
+{
+    match notation {
+        Notation::Words => status_text(alloc, history, waiting, objects),
+        Notation::Json => {
+            let state = state_of(waiting, objects);
+            status_json(alloc, history, waiting, objects, state)
+        }
+    }
 }
 
 /// Whether something waits, something of an object is open, or more versions are shown than a

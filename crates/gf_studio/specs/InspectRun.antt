@@ -1,15 +1,15 @@
--- What the inspecting run writes: the versions of an object, or the version on top at a point (this
--- project's choice).
-use Rattle.std.specs.Prelude.{◌≡◌, ℕ, List, Option, flat_map}
+-- What the inspecting run writes: the versions of one object or of many, or the version on top at a
+-- point (this project's choice).
+use Rattle.std.specs.Prelude.{◌≡◌, ℕ, true, false, List, Option}
+use Rattle.gf_json.specs.declared.notation.Notation.{Notation}
 use Rattle.gf_plane.specs.declared.point.Point.{Point}
 use Rattle.gf_ops.specs.declared.op.Op.{Op}
 use Rattle.gf_ops.specs.declared.op.ObjectId.{ObjectId}
 use Rattle.gf_groups.specs.Versions.{IsMade}
-use Rattle.gf_versions.specs.declared.key.Version.{Version}
 use Rattle.gf_inspect.specs.declared.top.VersionName.{VersionName}
-use Rattle.gf_inspect.specs.ObjectVersions.{AreVersionsOf}
+use Rattle.gf_inspect.specs.Told.{TellsObjects, TellsVersions, told_top}
 use Rattle.gf_inspect.specs.TopVersion.{NamesTop}
-use Rattle.gf_inspect.specs.VersionLines.{top_line, version_line}
+use Rattle.gf_studio.specs.declared.inspecting.Inspection.{Inspection}
 use Rattle.gf_studio.specs.declared.inspecting.Query.{Query}
 use Rattle.gf_studio.specs.declared.inspecting.Query.TheVariants as asked
 use Rattle.gf_studio.specs.FigRun.{DenotesSuch}
@@ -20,27 +20,26 @@ abbrev pub IsMissing : List Op → ObjectId → Type 0
 IsMissing h o = ¬ (IsMade h o)
 
 -- the object o is not missing, and the text has a line for each version of it, in their order
-pub record TellsVersions (h : List Op) (o : ObjectId) (text : List ℕ) : Type 0 where
-  pub present : ¬ (IsMissing h o)
-  pub versions : List Version
-  pub all : AreVersionsOf h o versions
-  pub is : text ≡ flat_map version_line versions
+abbrev pub TellsPresent : Notation → List Op → ObjectId → List ℕ → Type 0
+TellsPresent n h o text = (¬ (IsMissing h o)) × TellsVersions n h o text
 
 -- the text is the line of what is on top at p
-pub record TellsTop (h : List Op) (p : Point) (text : List ℕ) : Type 0 where
+pub record TellsTop (n : Notation) (h : List Op) (p : Point) (text : List ℕ) : Type 0 where
   pub name : Option VersionName
   pub top : NamesTop h p name
-  pub is : text ≡ top_line p name
+  pub is : text ≡ told_top n p name
 
 -- the text answers the query about h
-abbrev pub Tells : List Op → Query → List ℕ → Type 0
-Tells h (asked.Object o) text = TellsVersions h o text
-Tells h (asked.At p) text = TellsTop h p text
+abbrev pub Tells : Notation → List Op → Query → List ℕ → Type 0
+Tells n h (asked.Object o) text = TellsPresent n h o text
+Tells n h asked.Several text = TellsObjects n h true text
+Tells n h asked.All text = TellsObjects n h false text
+Tells n h (asked.At p) text = TellsTop n h p text
 
 -- the text answers the query about the history that the bytes denote
-abbrev pub AnswersQuery : Query → List ℕ → List ℕ → Type 0
-AnswersQuery query bytes text = DenotesSuch bytes (λ h. Tells h query text)
+abbrev pub AnswersQuery : Inspection → List ℕ → List ℕ → Type 0
+AnswersQuery i bytes text = DenotesSuch bytes (λ h. Tells i.notation h i.query text)
 
 -- known bytes grow from old to new by a text that answers the query about what the bytes denote
-abbrev pub WritesAnswer : Query → List ℕ → Option (List ℕ) → Option (List ℕ) → Type 0
-WritesAnswer query bytes old new = WritesText (AnswersQuery query bytes) old new
+abbrev pub WritesAnswer : Inspection → List ℕ → Option (List ℕ) → Option (List ℕ) → Type 0
+WritesAnswer i bytes old new = WritesText (AnswersQuery i bytes) old new

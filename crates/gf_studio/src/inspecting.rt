@@ -1,7 +1,7 @@
 //! From the bytes of operation lines to the lines of versions.
 
 ghost use Rattle.std.specs.Prelude.{◌≢◌, ◌≤◌, IfSome, IfOk, IfErr, OnOk};
-ghost use Rattle.gf_studio.specs.InspectRun.{AnswersQuery, Tells, TellsTop, TellsVersions};
+ghost use Rattle.gf_studio.specs.InspectRun.{AnswersQuery, Tells, TellsPresent, TellsTop};
 ghost use Rattle.gf_studio.specs.InspectRun.{WritesAnswer};
 ghost use Rattle.gf_run.specs.RefusedRuns.{IsBetween};
 ghost use Rattle.gf_studio.specs.RefusedParts.{RefusesQuery};
@@ -9,7 +9,8 @@ ghost use Rattle.gf_studio.specs.RefusedRuns.{RefusesAnswer};
 ghost use Rattle.gf_run.specs.RunAnswers.{LeavesSink, ReadsInput};
 
 use gf_groups::GroupFault;
-use gf_inspect::{lines, top_at_with, top_line, versions_with};
+use gf_inspect::{lines, object_lines, top_at_with, top_line, versions_with};
+use gf_json::Notation;
 use gf_ops::ObjectId;
 use gf_replay::read_replica;
 use gf_run::{StudioError, input};
@@ -24,36 +25,48 @@ use std::thread::Threads;
 pub enum Query {
     /// The versions of this object, hidden ones too, topmost first.
     Object(ObjectId),
+    /// Those of each object with several versions. The objects rise by id.
+    Several,
+    /// Those of each object. The objects rise by id.
+    All,
     /// The version on top at this point.
     At(Point),
 }
 
+/// What is asked of a history, and how the answer is told.
+#[derive(Clone, Copy, Debug, PartialEq, Eq)]
+pub struct Inspection {
+    pub query: Query,
+    pub notation: Notation,
+}
+
 /// Reads operation lines to their end, by 1 to 16 workers, and writes what their history answers to
-/// a query. The answer is a line for each version of an object, or that of the version on top. All
-/// is read before the first write.
+/// a query. The answer is a line for each version of one object or of many, or that of the version
+/// on top. Of many objects, one with more than 1,000 versions has a line that says so instead. All is
+/// read before the first write.
 pub fn inspect_run<T: Threads + Sync, R: Source, W: Sink>(
     rt: &T,
     alloc: Global,
     source: &mut R,
     sink: &mut W,
-    query: Query,
+    inspection: Inspection,
     workers: u8,
 ) -> Result<(), StudioError>
     requires { (1 ≤ workers) × (workers ≤ 16) }
     // What is written answers the query about the history that the bytes denote.
     ensures tells { OnOk result (IfSome (R.left source.old) (λ bytes.
-        WritesAnswer query bytes (W.taken sink.old) (W.taken sink.new))) }
+        WritesAnswer inspection bytes (W.taken sink.old) (W.taken sink.new))) }
 
     // The same as `fig_run` promises, with an object that the history lacks in place of a drawing.
     ensures source { ReadsInput R.Source source.old source.new result }
     ensures refused { IfErr result (λ e. IfSome (R.left source.old) (λ bytes.
-        RefusesAnswer query bytes e)) }
+        RefusesAnswer inspection.query bytes e)) }
 
     // At most a prefix of the text is written, and that only where the sink failed.
-    ensures sink { LeavesSink W.Sink (R.left source.old) (AnswersQuery query) sink.old sink.new
-        result }
+    ensures sink { LeavesSink W.Sink (R.left source.old) (AnswersQuery inspection) sink.old
+        sink.new result }
 {
-    let text = answer_of_lines(rt, alloc, source, query, workers)?;
+    let text = answer_of_lines(rt, alloc, source, inspection, workers)?;
     match write_whole(sink, &text) {
         Ok(()) => Ok(()),
         Err(SinkFault) => Err(StudioError::WriteFailed),
@@ -65,19 +78,19 @@ fn answer_of_lines<T: Threads + Sync, R: Source>(
     rt: &T,
     alloc: Global,
     source: &mut R,
-    query: Query,
+    inspection: Inspection,
     workers: u8,
 ) -> Result<Vec<u8>, StudioError>
     requires { (1 ≤ workers) × (workers ≤ 16) }
     ensures ok { IfOk result (λ text. IfSome (R.left source.old) (λ bytes.
-        AnswersQuery query bytes text.items)) }
+        AnswersQuery inspection bytes text.items)) }
     ensures source { ReadsInput R.Source source.old source.new result }
     ensures refused { IfErr result (λ e. IfSome (R.left source.old) (λ bytes.
-        RefusesAnswer query bytes e)) }
+        RefusesAnswer inspection.query bytes e)) }
     ensures no_write { IfErr result (λ e. e ≢ StudioError.WriteFailed) }
 {
     let bytes = input(alloc, source)?;
-    answer(rt, alloc, bytes, query, workers)
+    answer(rt, alloc, bytes, inspection, workers)
 }
 
 /// The text that answers a query about the history that these bytes denote.
@@ -85,39 +98,49 @@ fn answer<T: Threads + Sync>(
     rt: &T,
     alloc: Global,
     bytes: Vec<u8>,
-    query: Query,
+    inspection: Inspection,
     workers: u8,
 ) -> Result<Vec<u8>, StudioError>
     requires { (1 ≤ workers) × (workers ≤ 16) }
-    ensures ok { IfOk result (λ text. AnswersQuery query bytes.items text.items) }
-    ensures refused { IfErr result (RefusesAnswer query bytes.items) }
+    ensures ok { IfOk result (λ text. AnswersQuery inspection bytes.items text.items) }
+    ensures refused { IfErr result (RefusesAnswer inspection.query bytes.items) }
     ensures between { IfErr result IsBetween }
 {
     let replica = read_replica(rt, alloc, bytes, workers)?;
-    tell(alloc, &replica, query)
+    tell(alloc, &replica, inspection)
 }
 
 /// The text that answers a query about the history of a replica.
-fn tell(alloc: Global, replica: &Replica, query: Query) -> Result<Vec<u8>, StudioError>
-    ensures ok { IfOk result (λ text. Tells replica.now.ops query text.items) }
-    ensures err { IfErr result (RefusesQuery replica.now.ops query) }
+fn tell(alloc: Global, replica: &Replica, inspection: Inspection) -> Result<Vec<u8>, StudioError>
+    ensures ok { IfOk result (λ text.
+        Tells inspection.notation replica.now.ops inspection.query text.items) }
+    ensures err { IfErr result (RefusesQuery replica.now.ops inspection.query) }
 {
-    match query {
-        Query::Object(object) => tell_versions(alloc, replica, object),
-        Query::At(point) => match tell_top(alloc, replica, point) {
-            Ok(text) => Ok(text),
-            Err(OutOfMemory) => Err(StudioError::OutOfMemory),
-        },
+    let notation = inspection.notation;
+    let told = match inspection.query {
+        Query::Object(object) => return tell_versions(alloc, notation, replica, object),
+        Query::Several => object_lines(alloc, notation, &replica.versions(), true),
+        Query::All => object_lines(alloc, notation, &replica.versions(), false),
+        Query::At(point) => tell_top(alloc, notation, replica, point),
+    };
+    match told {
+        Ok(text) => Ok(text),
+        Err(OutOfMemory) => Err(StudioError::OutOfMemory),
     }
 }
 
 /// The lines of the versions of an object.
-fn tell_versions(alloc: Global, replica: &Replica, object: ObjectId) -> Result<Vec<u8>, StudioError>
-    ensures ok { IfOk result (λ text. TellsVersions replica.now.ops object text.items) }
+fn tell_versions(
+    alloc: Global,
+    notation: Notation,
+    replica: &Replica,
+    object: ObjectId,
+) -> Result<Vec<u8>, StudioError>
+    ensures ok { IfOk result (λ text. TellsPresent notation replica.now.ops object text.items) }
     ensures err { IfErr result (RefusesQuery replica.now.ops (Query.Object object)) }
 {
     match versions_with(alloc, &replica.versions(), object) {
-        Ok(versions) => match lines(alloc, versions.as_slice()) {
+        Ok(versions) => match lines(alloc, notation, versions.as_slice()) {
             Ok(text) => Ok(text),
             Err(OutOfMemory) => Err(StudioError::OutOfMemory),
         },
@@ -127,9 +150,14 @@ fn tell_versions(alloc: Global, replica: &Replica, object: ObjectId) -> Result<V
 }
 
 /// The line of the version on top at a point.
-fn tell_top(alloc: Global, replica: &Replica, point: Point) -> Result<Vec<u8>, OutOfMemory>
-    ensures { IfOk result (λ text. TellsTop replica.now.ops point text.items) }
+fn tell_top(
+    alloc: Global,
+    notation: Notation,
+    replica: &Replica,
+    point: Point,
+) -> Result<Vec<u8>, OutOfMemory>
+    ensures { IfOk result (λ text. TellsTop notation replica.now.ops point text.items) }
 {
     let name = top_at_with(alloc, &replica.versions(), point)?;
-    top_line(alloc, point, name.as_ref())
+    top_line(alloc, notation, point, name.as_ref())
 }

@@ -42,7 +42,7 @@ pub use gf_run::StudioError;
 pub use gf_streams::{
     In, InputError, MOST_INPUT_BYTES, Reel, Source, SourceFault, TextLines, read_input,
 };
-pub use inspecting::{Query, inspect_run};
+pub use inspecting::{Inspection, Query, inspect_run};
 pub use laws::{
     a_text_fits_as_its_history_does, a_text_is_repainted_as_its_history_is_painted,
     the_same_histories_draw_alike, the_same_operations_draw_alike, the_same_operations_fit_alike,

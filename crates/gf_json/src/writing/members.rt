@@ -28,7 +28,8 @@ pub(crate) fn put_look(
     put(members, alloc, "shown", Value::from(start.shown))
 }
 
-pub(crate) fn put_form(
+/// Puts the kind of a form, and its size or its points.
+pub fn put_form(
     alloc: Global,
     members: &mut Map<String, Value>,
     form: &Form,

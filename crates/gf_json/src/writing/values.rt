@@ -12,13 +12,15 @@ use gf_plane::{Point, Rgb};
 use serde_json::{Value, json};
 use std::alloc::{AllocError, Global};
 
-pub(crate) fn name_data(alloc: Global, name: OpId) -> Result<Value, AllocError>
+/// A name, as `[1,6]`.
+pub fn name_data(alloc: Global, name: OpId) -> Result<Value, AllocError>
     ensures { IfOk result (λ v. view v ≡ name_data name) }
 {
     pair_data(alloc, Value::from(name.site), Value::from(name.seq))
 }
 
-pub(crate) fn ids_data(alloc: Global, ids: &Ids) -> Result<Value, AllocError>
+/// An array of the ids.
+pub fn ids_data(alloc: Global, ids: &Ids) -> Result<Value, AllocError>
     ensures { IfOk result (λ v. view v ≡ ids_data ids.now) }
 {
     let values = name_values(alloc, ids.as_slice())?;
@@ -53,7 +55,8 @@ fn entries(alloc: Global, numbers: &[u32]) -> Result<Vec<Value>, AllocError>
     Ok(values)
 }
 
-pub(crate) fn point_data(alloc: Global, point: Point) -> Result<Value, AllocError>
+/// A point, as `[10,-5]`.
+pub fn point_data(alloc: Global, point: Point) -> Result<Value, AllocError>
     ensures { IfOk result (λ v. view v ≡ point_data point) }
 {
     pair_data(alloc, Value::from(point.x), Value::from(point.y))
@@ -89,7 +92,8 @@ fn pair_data(alloc: Global, first: Value, second: Value) -> Result<Value, AllocE
     json!(in alloc; [first, second])
 }
 
-pub(crate) fn colour_data(alloc: Global, colour: Rgb) -> Result<Value, AllocError>
+/// A colour, as `"ff8000"`.
+pub fn colour_data(alloc: Global, colour: Rgb) -> Result<Value, AllocError>
     ensures { IfOk result (λ v. view v ≡ colour_data colour) }
 {
     let text = hex_rgb(alloc, colour)?;

@@ -2,7 +2,8 @@ use Rattle.std.proofs.Common.{◌≡◌, ◌<◌, ◌≤◌, ap, get_or, length,
 use Rattle.std.proofs.lemmas.List.{take_all, take_more}
 use Rattle.gf_ops.specs.declared.op.OpId.{OpId}
 use Rattle.gf_ops.specs.declared.op.ObjectId.{ObjectId}
-use Rattle.gf_status.proofs.StatusLemmas.{AreStatusesOf, all_of, made_at, made_told, of_more}
+use Rattle.gf_names.proofs.ObjectLemmas.{made_at}
+use Rattle.gf_status.proofs.StatusLemmas.{AreStatusesOf, all_of, of_more}
 use Rattle.gf_status.proofs.objects.object_statuses.Goals as goal
 
 abbrev no_id : OpId
@@ -10,13 +11,10 @@ no_id = record { site = 0; seq = 0 }
 
 pub object_status-requires : goal.object_status-requires
 object_status-requires c =
-    let h = c.args.versions.now in
-    let made = rw c.history-history.ensures.ops at c.in_ok-made.ensures in
-    let told = rw c.deref.ensures.value at c.in_ok-ids.ensures in
+    let objects = rw c.history-history.ensures.ops at c.in_ok-ids.ensures in
     let same = c.as_slice-id-items.ensures in
     let within : c.loop-id.id-index < length c.in_ok-ids.ids = rw same at c.loop-id-test.true in
-    rw same (made_at h c.in_ok-ids.ids c.loop-id.id-index no_id
-    (made_told h c.in_ok-made.made.items c.in_ok-ids.ids made told) within)
+    rw same (made_at c.args.versions.now c.in_ok-ids.ids c.loop-id.id-index no_id objects within)
 
 pub loop-id-preserved : goal.loop-id-preserved
 loop-id-preserved c =
@@ -34,12 +32,10 @@ pub returns : goal.returns
 returns c =
     let h = c.args.versions.now in
     let ids = c.in_ok-ids.ids in
-    let made = rw c.history-history.ensures.ops at c.in_ok-made.ensures in
-    let told = rw c.deref.ensures.value at c.in_ok-ids.ensures in
+    let objects = rw c.history-history.ensures.ops at c.in_ok-ids.ensures in
     let same = c.as_slice-id-items.ensures in
     let past : length ids ≤ c.loop-id.id-index = rw same at c.loop-id-test.false in
     let so_far = rw same at c.loop-id.invariant in
-    all_of h ids c.loop-id.found.items (made_told h c.in_ok-made.made.items ids made told)
-    told.rising
+    all_of h ids c.loop-id.found.items objects
     (subst (λ is. AreStatusesOf h is c.loop-id.found.items) (take_all c.loop-id.id-index ids past)
     so_far)
