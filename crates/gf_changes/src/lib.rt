@@ -4,10 +4,11 @@
 //! - [`Target`], [`targets`]: the figures that are to be shown, from the front to the back, each
 //!   with its name, if it has one.
 //! - [`versions_of`]: the versions that are shown.
-//! - [`matched`]: which version each figure is, as a [`Matching`]; [`first_beyond`]: the first figure
-//!   that comes to be something beyond the limits of operations.
+//! - [`matched`]: which version each figure is, as a [`Matching`]; [`first_beyond`]: the first
+//!   figure that comes to be something beyond the limits of operations.
 //! - [`object_not_shown`]: the hidden object that a figure names; [`showing_again`]: the change that
-//!   shows a hidden version which looks like the figure; [`has_change`]: whether it is there already.
+//!   shows a hidden version which looks like the figure; [`has_change`]: whether the change is there
+//!   already.
 //! - [`alterations`]: the changes of versions to what their figures are, and those that hide others.
 //! - [`arranged`]: the changes of layers, and the new figures behind these.
 #![tactic(auto)]

@@ -95,10 +95,17 @@ fn kind_words(form: &Form) -> &'static str {
 
 /// What an object of this form has in place of the value.
 fn value_words(form: &Form, value: &Value) -> &'static str {
-    match (value, form) {
-        (Value::Points(_), _) => "it has no points",
-        (_, Form::Polygon(_)) => "it has no size",
-        _ => "its size is two equal numbers",
+    match value {
+        Value::Points(_) => "it has no points",
+        Value::Size(_, _) => match form {
+            Form::Polygon(_) => "it has no size",
+            Form::Rect(_, _) | Form::Circle(_) | Form::Ellipse(_, _) => {
+                "its size is two equal numbers"
+            }
+        },
+        Value::Place(_) | Value::Colour(_) | Value::Layer(_) | Value::Shown(_) => {
+            "it has such a value"
+        }
     }
 }
 

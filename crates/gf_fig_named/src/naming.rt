@@ -160,7 +160,7 @@ fn name_of(
     })
 }
 
-/// Those of the ids and of the others that a version with its own ids lacks.
+/// Which of the ids and of the lacked ones a version with its own ids lacks.
 fn others_of(
     alloc: Global,
     ids: &[OpId],

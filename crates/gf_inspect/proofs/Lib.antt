@@ -1,3 +1,4 @@
 pub mod ListingLemmas
 pub mod TopNameLemmas
 pub mod AimedChangeLemmas
+mod JsonLemmas

@@ -5,3 +5,4 @@ pub mod SetterLemmas
 pub mod DifferingLemmas
 pub mod CleanLemmas
 pub mod StatusLemmas
+mod JsonLemmas
