@@ -1,6 +1,7 @@
 -- What is told of the versions of objects, and of what is on top, in words or as JSON (this project's
 -- choice).
-use Rattle.std.specs.Prelude.{◌≡◌, ◌≤◌, ◌<◌, ℕ, Bool, IsTrue, List, [], ◌∷◌, ◌++◌, Option, flat_map}
+use Rattle.std.specs.Prelude.{◌≡◌, ◌≤◌, ◌<◌, ◌&&◌, ℕ, nat_le, Bool, false, IsTrue, List, []}
+use Rattle.std.specs.Prelude.{◌∷◌, ◌++◌, Option, flat_map}
 use Rattle.gf_json.specs.declared.notation.Notation.{Notation}
 use Rattle.gf_json.specs.declared.notation.Notation.TheVariants.{Json, Words}
 use Rattle.gf_json.specs.Notations.{json_line}
@@ -38,14 +39,18 @@ pub record TellsVersions (n : Notation) (h : List Op) (o : ObjectId) (text : Lis
   pub all : AreVersionsOf h o versions
   pub is : text ≡ flat_map (told_version n) versions
 
--- the text tells the versions of the object o, if these are at most 1,000. It tells nothing where
--- several are asked for, and there is one
+-- only objects with several versions are asked for, and one with this count has no more than one
+abbrev pub is_left_out : Bool → ℕ → Bool
+is_left_out several count = several && nat_le count 1
+
+-- the text tells the versions of the object o, if these are at most 1,000, and nothing where it is
+-- left out
 pub record TellsObject (n : Notation) (h : List Op) (several : Bool) (o : ObjectId)
     (text : List ℕ) : Type 0 where
   pub count : ℕ
   pub counted : IsCount h o count
-  pub one : IsTrue several → count ≤ 1 → text ≡ []
-  pub few : (IsTrue several → 1 < count) → count ≤ MOST_VERSIONS → TellsVersions n h o text
+  pub left_out : IsTrue (is_left_out several count) → text ≡ []
+  pub few : is_left_out several count ≡ false → count ≤ MOST_VERSIONS → TellsVersions n h o text
   pub many : MOST_VERSIONS < count → text ≡ told_many n o
 
 -- the text tells the objects under these ids, one after the other

@@ -2,8 +2,8 @@
 
 ghost use Rattle.std.specs.Prelude.{◌≡◌, ◌++◌, IfOk, OnOk, flat_map, option_copied};
 ghost use Rattle.gf_groups.specs.Versions.{IsMade};
-ghost use Rattle.gf_inspect.specs.Told.{TellsObject, TellsObjects, told_many, told_top};
-ghost use Rattle.gf_inspect.specs.Told.{told_version};
+ghost use Rattle.gf_inspect.specs.Told.{TellsObject, TellsObjects, is_left_out, told_many};
+ghost use Rattle.gf_inspect.specs.Told.{told_top, told_version};
 
 use crate::{VersionName, json, texts, versions_with};
 use gf_groups::GroupFault;
@@ -77,17 +77,30 @@ fn lines_of(
     ensures { IfOk result (λ text. TellsObject notation versions.now several object text.items) }
 {
     let count = versions.count(object);
-    if several && count <= 1 {
+    if is_left_out(several, count) {
         return Ok(Vec::new(alloc));
     }
     if MOST_VERSIONS < count {
-        return many(alloc, notation, object);
+        let text = many(alloc, notation, object)?;
+        return Ok(text);
     }
     match versions_with(alloc, versions, object) {
-        Ok(found) => lines(alloc, notation, &found),
+        Ok(found) => {
+            let text = lines(alloc, notation, &found)?;
+            Ok(text)
+        }
+        // The object was made, so that this is never so.
         Err(GroupFault::NoObject) => Ok(Vec::new(alloc)),
         Err(GroupFault::OutOfMemory) => Err(OutOfMemory),
     }
+}
+
+/// Whether only objects with several versions are asked for, and one with this count has no more
+/// than one.
+fn is_left_out(several: bool, count: usize) -> bool
+    ensures { result ≡ is_left_out several count }
+{
+    several && count <= 1
 }
 
 /// The line that an object has more versions than are listed.
