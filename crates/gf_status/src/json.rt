@@ -112,9 +112,16 @@ fn push_objects(
         ≡ out.old.items ++ flat_map object_json statuses.now) }
 {
     for status in statuses {
-        push_line(out, alloc, &object_data(alloc, status)?)?;
+        push_object(out, alloc, status)?;
     }
     Ok(())
+}
+
+/// Appends the line of an object.
+fn push_object(out: &mut Vec<u8>, alloc: Global, status: &ObjectStatus) -> Result<(), AllocError>
+    ensures { OnOk result (out.new.items ≡ out.old.items ++ object_json status.now) }
+{
+    push_line(out, alloc, &object_data(alloc, status)?)
 }
 
 fn object_data(alloc: Global, status: &ObjectStatus) -> Result<Value, AllocError>
