@@ -1,5 +1,5 @@
 -- Versions and what is on top at a point as lines of JSON (this project's choice).
-use Rattle.std.specs.Prelude.{ℕ, List, [], ◌∷◌, ◌++◌, Option, Some, None, codes}
+use Rattle.std.specs.Prelude.{ℕ, List, [], ◌∷◌, Option, Some, None, codes}
 use Rattle.serde_json.specs.Data.{Data, boolean}
 use Rattle.gf_json.specs.Notations.{object_of}
 use Rattle.gf_json.specs.WrittenMembers.{form_members}
