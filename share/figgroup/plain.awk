@@ -1,7 +1,12 @@
 # Makes a FIG 3.2 drawing plain, so that figgroup can import it, or take it where its figures have names.
-# What figgroup does not hold is changed or left out, and told on standard error with its line.
+# Outlines, lines and curves become filled polygons. What figgroup does not hold is changed or left out, and told on
+# standard error with its line.
 #
 #     awk -f plain.awk < yours.fig > plain.fig
+#     awk -v groups=FILE -f plain.awk < yours.fig > plain.fig
+#
+# The second writes into FILE a line `NAME FIRST LAST` for each object that became several figures: those from the
+# FIRST to the LAST of plain.fig, counted from 1. NAME has its kind and line, as box-12.
 
 BEGIN {
     # The colours 0 to 31 as xfig 3.2.8b shows them.
@@ -12,29 +17,39 @@ BEGIN {
     for (i = 0; i < 32; i++) value[i] = palette[i + 1]
     for (i = 0; i < 8; i++) number[value[i]] = i
     value[-1] = value[0]
-    split("line box polygon box picture", polylines, " ")
+    # The kinds of objects by their code and sub type.
+    split("1 1 ellipse 1 2 ellipse 1 3 circle 1 4 circle 2 1 line 2 2 box 2 3 polygon 2 4 box 2 5 picture" \
+        " 3 0 spline 3 1 spline 3 2 spline 3 3 spline 3 4 spline 3 5 spline 5 1 arc 5 2 arc", words, " ")
+    for (i = 1; i in words; i += 3) kinds[words[i], words[i + 1]] = words[i + 2]
+    most_figures = 1000  # in a drawing
+    most_corners = 64  # of a polygon
+    most_segments = 31  # of a line in one polygon, which has two corners at each end of each
+    most_coordinate = 1000000
+    unit = 15  # of the thickness of lines, and a pixel of xfig
+    pi = 3.14159265358979
 }
 
-# The header: the first line, seven lines of any text, and the resolution.
+# The header: the first line, seven lines of any text, and the resolution. Comments stand before what they belong to.
 
 { sub(/\r$/, "") }
 
 NR == 1 {
     if ($0 !~ /^#FIG 3\.2/) refuse(1, "no FIG 3.2: open it in xfig, and save it anew")
-    head = "#FIG 3.2\n"
+    head[++heads] = "#FIG 3.2"
     next
 }
 
 in_text { in_text = !/\\001$/; next }
 
-/^#/ { comments = comments $0 "\n"; next }
+/^#/ { comment[++comments] = $0; next }
 
-header < 7 { head = head $0 "\n"; header++; next }
+header < 7 { head[++heads] = $0; header++; next }
 
 header == 7 {
     if ($1 != 1200 || $2 != 2) refuse(NR, "resolution " $0 ": open it in xfig, and save it anew")
-    head = head comments "1200 2\n"
-    comments = ""
+    for (i = 1; i <= comments; i++) head[++heads] = comment[i]
+    head[++heads] = "1200 2"
+    comments = 0
     header++
     next
 }
@@ -44,7 +59,9 @@ header == 7 {
 count == 0 && $1 == 4 {
     line = NR
     in_text = !/\\001$/
-    leave_out("text", $12, $13, "")
+    kind = "text"; x = $12; y = $13
+    leave_out("")
+    comments = own_comments
     next
 }
 
@@ -60,7 +77,7 @@ NF {
     if (count == wanted) {
         add_object()
         count = named = 0
-        comments = ""
+        comments = own_comments
     }
 }
 
@@ -68,10 +85,19 @@ END {
     if (refused) exit 1
     if (header < 8) refuse(NR, "the text ends within the header")
     if (count || in_text) refuse(line, "the text ends within this object")
-    printf "%s", head
+    while (level >= 0) end_compound()
+    for (i = 1; i <= heads; i++) print head[i]
     for (i = 32; i < 544; i++) if (i in value) print "0 " i " #" value[i]
-    for (i = 1; i <= kept; i++) printf "%s", figure[i]
-    told("plain: kept " kept + 0 ", left out " left + 0)
+    for (i = first_of[-1, 1]; i; i = next_of[i]) write_object(i)
+    told("plain: kept " kept + 0 (written == kept ? "" : " as " written " figures") ", left out " left + 0)
+}
+
+function write_object(o,    i) {
+    for (i = first_comment[o]; i <= last_comment[o]; i++) print comment[i]
+    for (i = first_figure[o]; i <= last_figure[o]; i++) printf "%s", figure[i]
+    i = last_figure[o] - first_figure[o] + 1
+    if (groups != "" && i > 1) print name[o], written + 1, written + i > groups
+    written += i
 }
 
 function told(words) {
@@ -85,18 +111,21 @@ function refuse(at, words) {
     exit 1
 }
 
-function leave_out(kind, x, y, why) {
+function leave_out(why) {
     told("plain: line " line ": " kind " at " x "," y ": left out" why)
-    comments = ""
     left++
 }
+
+function change(what) { if (index(changes, what) == 0) changes = changes (changes == "" ? "" : "; ") what }
+
+# Fields of objects.
 
 # How many fields the object has, as far as those that came say.
 function fields_wanted() {
     if (field[1] == 0) return 3
     if (field[1] == 1) return 20
-    if (field[1] == 2) return count < 16 ? 16 : 16 + arrows(14) + 2 * field[16]
-    if (field[1] == 3) return count < 14 ? 14 : 14 + arrows(12) + 3 * field[14]
+    if (field[1] == 2) return count < 16 ? 16 : 16 + arrows(14) + 2 * points_told(16)
+    if (field[1] == 3) return count < 14 ? 14 : 14 + arrows(12) + 3 * points_told(14)
     if (field[1] == 5) return count < 22 ? 22 : 22 + arrows(13)
     if (field[1] == 6) return 5
     if (field[1] == -6) return 1
@@ -106,15 +135,459 @@ function fields_wanted() {
 # How many fields the arrows have, whose switches are this field and the next.
 function arrows(at) { return 5 * ((field[at] != 0) + (field[at + 1] != 0)) }
 
-function add_object() {
-    changes = ""
-    if (field[1] == 0) add_colour(field[2], tolower(substr(field[3], 2)))
-    else if (field[1] == 1) add_ellipse()
-    else if (field[1] == 2) add_polyline(16 + arrows(14))
-    else if (field[1] == 3) leave_out("spline", field[15 + arrows(12)], field[16 + arrows(12)], "")
-    else if (field[1] == 5) leave_out("arc", field[17], field[18], "")
-    else if (field[1] == 6) told("plain: line " line ": compound at " field[2] "," field[3] ": broken up")
+function points_told(at) {
+    if (field[at] !~ /^[0-9]+$/) refuse(line, "its count of points is " field[at])
+    return field[at]
 }
+
+function are_numbers(    i) {
+    for (i = 1; i <= count; i++) {
+        if (field[i] !~ /^[-+]?([0-9]+\.?[0-9]*|\.[0-9]+)([eE][-+]?[0-9]+)?$/) return 0
+        if (field[i] < -1e9 || field[i] > 1e9) return 0
+    }
+    return field[7] ~ /^[0-9]+$/ && field[7] < 1000
+}
+
+function add_object() {
+    if (field[1] == 0) add_colour(field[2], tolower(substr(field[3], 2)))
+    else if (field[1] == 6) {
+        told("plain: line " line ": compound at " field[2] "," field[3] ": broken up")
+        level++
+    } else if (field[1] == -6) {
+        if (!level) refuse(line, "the end of a compound that did not begin")
+        end_compound()
+    } else {
+        kind = kinds[field[1], field[2]]
+        if (kind == "") refuse(line, "no object of FIG begins with " field[1] " " field[2])
+        changes = ""
+        begun = figures
+        beyond = full = outlined = 0
+        if (field[1] == 1) draw_ellipse(field[13], field[14], field[15], field[16])
+        else if (field[1] == 2) draw_polyline(16 + arrows(14))
+        else if (field[1] == 3) draw_spline(14 + arrows(12))
+        else draw_arc()
+    }
+}
+
+# Whether the object at this point can be drawn; if not it is left out.
+function is_drawn(at_x, at_y) {
+    x = at_x; y = at_y
+    if (kind == "picture") leave_out("")
+    else if (!are_numbers()) leave_out(": its numbers are none of FIG")
+    else return 1
+    return 0
+}
+
+# Keeps the figures that were made of the object, all of them or none.
+function keep_object(rank, why) {
+    if (outlined) {
+        change((figures - begun > outlined ? "its outline becomes " : "it becomes ") \
+            (outlined == 1 ? "a polygon" : outlined " polygons"))
+        if (field[3] > 0) change("its dashes are joined")
+    }
+    if (beyond) leave_out(": it reaches beyond " most_coordinate)
+    else if (full) leave_out(": a drawing has at most " most_figures " figures")
+    else if (figures == begun) leave_out(why)
+    else {
+        if (changes != "") told("plain: line " line ": " kind " at " x "," y ": " changes)
+        name[++kept] = kind "-" line
+        first_figure[kept] = begun + 1
+        last_figure[kept] = figures
+        first_comment[kept] = own_comments + 1
+        last_comment[kept] = own_comments = comments
+        append(level, rank, kept, kept)
+        return
+    }
+    figures = begun
+}
+
+# The order within one depth, as fig2dev paints it: what compounds hold, arcs, ellipses, then lines and splines. These
+# are the ranks 1 to 4. Each compound that is open has a list of objects for each rank.
+
+function append(at, rank, first, last) {
+    if ((at, rank) in last_of) next_of[last_of[at, rank]] = first
+    else first_of[at, rank] = first
+    last_of[at, rank] = last
+}
+
+# Joins the lists of the innermost compound, and appends them to the compound around it.
+function end_compound(    rank, first, last) {
+    for (rank = 1; rank <= 4; rank++) if ((level, rank) in last_of) {
+        if (first) next_of[last] = first_of[level, rank]
+        else first = first_of[level, rank]
+        last = last_of[level, rank]
+        delete first_of[level, rank]
+        delete last_of[level, rank]
+    }
+    level--
+    if (first) append(level, 1, first, last)
+}
+
+# Kinds of objects. Each makes a path: points that are joined in order.
+
+function draw_ellipse(cx, cy, a, b,    turn, shape, end) {
+    if (!is_drawn(cx, cy)) return
+    turn = kind == "circle" && a == b ? 0 : field[12]
+    if (a < 1 || b < 1) {
+        leave_out(": it has no extent")
+        return
+    }
+    shape = field[2]
+    end = " " field[17] " " field[18] " " field[19] " " field[20]
+    if (turn != 0 && cos(turn) * cos(turn) < 0.00000001) {
+        if (is_filled()) change("its turn by a right angle becomes other radii")
+        turn = a; a = b; b = turn
+        turn = 0
+        shape = 1
+        end = " " cx " " cy " " cx + a " " cy + b
+    } else if (turn == 0 && kind == "circle" && a != b) {
+        if (is_filled()) change("it becomes an ellipse")
+        shape = 1
+    }
+    points = 0
+    add_arc(cx, cy, a, b, turn, 0, 2 * pi, 64)
+    points--
+    if (is_filled() && turn == 0) {
+        add_figure("1 " shape, colour_written(field[6], field[9]), "1 0.0000 " cx " " cy " " a " " b end "\n")
+        check_reach(cx, cy)
+        check_reach(a, b)
+    } else if (is_filled()) {
+        change("it is turned, and becomes a polygon")
+        fill_path(0)
+    }
+    if (field[4] > 0 && (a <= half_width(field[4]) || b <= half_width(field[4])))
+        add_disc(cx, cy, a + half_width(field[4]), b + half_width(field[4]))
+    else if (field[4] > 0) {
+        points = 0
+        add_arc(cx, cy, a, b, turn, 0, 2 * pi, arc_steps(a > b ? a : b, 2 * pi))
+        points--
+        stroke(1, field[4], 0, 1)
+    }
+    keep_object(3, ": it has no fill")
+}
+
+# The points begin behind this field.
+function draw_polyline(at,    is_closed, is_box) {
+    if (!is_drawn(field[at + 1], field[at + 2])) return
+    read_points(at, field[16])
+    is_closed = points > 1 && point_x[1] == point_x[points] && point_y[1] == point_y[points]
+    if (is_closed) points--
+    else if (is_filled()) change("its ends are joined")
+    is_box = field[2] == 2 && points == 4
+    if (field[2] == 4 && field[13] > 0) round_corners(field[13] * unit)
+    if (is_filled()) fill_path(is_box)
+    draw_line(is_closed || field[2] != 1, 12, 14, field[11])
+    keep_object(4, is_filled() ? ": it has no area" : ": it has no fill")
+}
+
+function draw_arc(    from, sweep, radius) {
+    if (!is_drawn(field[17], field[18])) return
+    radius = distance(field[15], field[16], field[17], field[18])
+    from = atan2(field[18] - field[16], field[17] - field[15])
+    sweep = atan2(field[22] - field[16], field[21] - field[15]) - from
+    if (field[12] == 0 && sweep <= 0) sweep += 2 * pi  # clockwise, as y goes down
+    if (field[12] != 0 && sweep >= 0) sweep -= 2 * pi
+    points = 0
+    add_arc(field[15], field[16], radius, radius, 0, from, sweep, arc_steps(radius, sweep))
+    if (field[2] == 2) add_point(field[15], field[16])
+    if (is_filled()) fill_path(0)
+    draw_line(field[2] == 2, 11, 13, 1)
+    keep_object(2, is_filled() ? ": it has no area" : ": it has no fill")
+}
+
+# The points begin behind this field, and behind them the shape factors.
+function draw_spline(at,    n, is_closed) {
+    if (!is_drawn(field[at + 1], field[at + 2])) return
+    n = field[14]
+    is_closed = field[2] % 2
+    bend_spline(at, n, is_closed)
+    if (is_filled()) fill_path(0)
+    draw_line(is_closed, 11, 12, 1)
+    keep_object(4, is_filled() ? ": it has no area" : ": it has no fill")
+}
+
+function is_filled() { return field[9] >= 0 }
+
+# Paths.
+
+function add_point(px, py) {
+    point_x[++points] = px
+    point_y[points] = py
+}
+
+function read_points(at, n,    i) {
+    points = 0
+    for (i = 1; i <= n; i++) add_point(field[at + 2 * i - 1], field[at + 2 * i])
+}
+
+# Adds an arc of an ellipse with the radii a and b, by so many steps. Angles rise clockwise, as y goes down.
+function add_arc(cx, cy, a, b, turn, from, sweep, steps,    i, t) {
+    for (i = 0; i <= steps; i++) {
+        t = from + sweep * i / steps
+        add_point(cx + a * cos(t) * cos(turn) + b * sin(t) * sin(turn), \
+            cy - a * cos(t) * sin(turn) + b * sin(t) * cos(turn))
+    }
+}
+
+# By so many steps an arc is drawn, at most 3 units off.
+function arc_steps(radius, sweep,    steps) {
+    steps = 4 + int(sqrt(radius / 24) * (sweep < 0 ? -sweep : sweep))
+    return steps < 60 ? steps : 60
+}
+
+# Makes the box of the points one with round corners of this radius.
+function round_corners(radius,    i, least_x, least_y, most_x, most_y) {
+    least_x = most_x = point_x[1]
+    least_y = most_y = point_y[1]
+    for (i = 2; i <= points; i++) {
+        least_x = least(least_x, point_x[i]); most_x = -least(-most_x, -point_x[i])
+        least_y = least(least_y, point_y[i]); most_y = -least(-most_y, -point_y[i])
+    }
+    radius = least(radius, least(most_x - least_x, most_y - least_y) / 2)
+    points = 0
+    add_arc(most_x - radius, most_y - radius, radius, radius, 0, 0, pi / 2, 6)
+    add_arc(least_x + radius, most_y - radius, radius, radius, 0, pi / 2, pi / 2, 6)
+    add_arc(least_x + radius, least_y + radius, radius, radius, 0, pi, pi / 2, 6)
+    add_arc(most_x - radius, least_y + radius, radius, radius, 0, 3 * pi / 2, pi / 2, 6)
+}
+
+# The curve of an X-spline (Blanc and Schlick, SIGGRAPH 95): between each two of its n points eight steps.
+function bend_spline(at, n, is_closed,    i, k, before, next_point, after) {
+    points = 0
+    for (i = 1; i <= n - !is_closed; i++) {
+        before = i > 1 ? i - 1 : is_closed ? n : 1
+        next_point = i % n + 1
+        after = next_point < n ? next_point + 1 : is_closed ? 1 : n
+        for (k = 0; k < 8; k++)
+            blend(k / 8, at + 2 * before, at + 2 * i, at + 2 * next_point, at + 2 * after, \
+                field[at + 2 * n + i], field[at + 2 * n + next_point])
+    }
+    if (!is_closed) add_point(field[at + 2 * n - 1], field[at + 2 * n])
+}
+
+# Adds the point at t between the second and the third of four points, whose shape factors are s and r. The points are
+# told by the fields of their y.
+function blend(t, first, second, third, fourth, s, r,    a, b, c, d, sum) {
+    s = least(1, -least(1, -s))
+    r = least(1, -least(1, -r))
+    a = s < 0 ? tail(-t, -s) : t < s ? approach((s - t) / (1 + s), 1 + s) : 0
+    c = s < 0 ? pull(t, -s) : approach((t + s) / (1 + s), 1 + s)
+    b = r < 0 ? pull(1 - t, -r) : approach((1 - t + r) / (1 + r), 1 + r)
+    d = r < 0 ? tail(t - 1, -r) : t > 1 - r ? approach((t - 1 + r) / (1 + r), 1 + r) : 0
+    sum = a + b + c + d
+    add_point((a * field[first - 1] + b * field[second - 1] + c * field[third - 1] + d * field[fourth - 1]) / sum, \
+        (a * field[first] + b * field[second] + c * field[third] + d * field[fourth]) / sum)
+}
+
+# The weights of a point that the curve approaches, and of one that it goes through: near it, and behind it.
+function approach(u, width,    p) {
+    p = 2 * width * width
+    return u * u * u * (10 - p + (2 * p - 15) * u + (6 - p) * u * u)
+}
+
+function pull(u, q) { return u * (q + u * (2 * q + u * (8 - 12 * q + u * (14 * q - 11 + u * (4 - 5 * q))))) }
+
+function tail(u, q) { return u * (q + u * (2 * q - u * u * (2 * q + u * q))) }
+
+function ceiling(x) { return int(x) < x ? int(x) + 1 : int(x) }
+
+function least(a, b) { return a + 0 < b + 0 ? a + 0 : b + 0 }
+
+function distance(ax, ay, bx, by) { return sqrt((bx - ax) * (bx - ax) + (by - ay) * (by - ay)) }
+
+# Leaves out the points that change the path least until so many are left: in each round those that are nearer than a
+# bound to the line between their neighbours, but no two neighbours. The bound doubles.
+function thin_path(most,    bound) {
+    for (bound = 1; points > most; bound *= 2) thin_once(most, bound)
+}
+
+function thin_once(most, bound,    i, n, there, dropped) {
+    there = points
+    n = 1
+    for (i = 2; i <= points; i++) {
+        dropped = !dropped && there > most && i < points && height_over(n, i, i + 1) < bound
+        if (dropped) there--
+        else {
+            n++
+            point_x[n] = point_x[i]
+            point_y[n] = point_y[i]
+        }
+    }
+    points = n
+}
+
+# How far the point i is from the line through a and b, or from a where both are one.
+function height_over(a, i, b,    chord, dx, dy) {
+    dx = point_x[i] - point_x[a]
+    dy = point_y[i] - point_y[a]
+    chord = distance(point_x[a], point_y[a], point_x[b], point_y[b])
+    if (chord == 0) return sqrt(dx * dx + dy * dy)
+    chord = (dx * (point_y[b] - point_y[a]) - dy * (point_x[b] - point_x[a])) / chord
+    return chord < 0 ? -chord : chord
+}
+
+function drop_repeated(is_closed,    i, n) {
+    n = 1
+    for (i = 2; i <= points; i++) if (point_x[i] != point_x[n] || point_y[i] != point_y[n]) {
+        n++
+        point_x[n] = point_x[i]
+        point_y[n] = point_y[i]
+    }
+    if (is_closed && n > 1 && point_x[1] == point_x[n] && point_y[1] == point_y[n]) n--
+    points = n
+}
+
+# Figures.
+
+function add_figure(first, colour, last) {
+    if (figures == most_figures) full = 1
+    else figure[++figures] = first " 0 0 " colour " " colour " " field[7] + 0 " -1 20 0.000 " last
+}
+
+function check_reach(px, py) {
+    if (px * px > most_coordinate * most_coordinate || py * py > most_coordinate * most_coordinate) beyond = 1
+}
+
+function point_text(px, py) {
+    check_reach(px, py)
+    return " " round(px) " " round(py)
+}
+
+# Adds the path as a filled polygon or box.
+function fill_path(is_box,    i, text) {
+    if (points > most_corners) {
+        change("of its " points " corners " most_corners " are kept")
+        thin_path(most_corners)
+    }
+    if (points < 3) return
+    for (i = 1; i <= points; i++) {
+        text = text point_text(point_x[i], point_y[i])
+        check_reach(point_x[i] - point_x[1], point_y[i] - point_y[1])
+    }
+    add_figure("2 " (is_box ? 2 : 3), colour_written(field[6], field[9]), \
+        "0 0 -1 0 0 " points + 1 "\n\t" text point_text(point_x[1], point_y[1]) "\n")
+}
+
+function add_disc(cx, cy, a, b) {
+    check_reach(cx, cy)
+    a = round(a); b = round(b)
+    add_figure("1 " (a == b ? 3 : 1), colour_written(field[5], 20), "1 0.0000 " round(cx) " " round(cy) " " a " " b \
+        " " round(cx) " " round(cy) " " round(cx) + a " " round(cy) + (a == b ? 0 : b) "\n")
+    outlined++
+}
+
+# Draws the path as a line, with the arrows of which the switches are this field and the next.
+function draw_line(is_closed, cap, switches, join) {
+    if (field[4] <= 0) return
+    stroke(is_closed, field[4], field[cap], join)
+}
+
+# Half the width of a line of this thickness.
+function half_width(thickness) { return (thickness > 1 ? thickness - 1 : 1) * unit / 2 - 0.5 }
+
+# Lines. One of a width becomes polygons along its segments, each with the sides of at most 31 segments.
+
+function stroke(is_closed, thickness, cap, join,    half, segments, i, j) {
+    half = half_width(thickness)
+    drop_repeated(is_closed)
+    if (points == 1) {
+        add_disc(point_x[1], point_y[1], half, half)
+        return
+    }
+    if (points > most_segments) thin_once(3, 4)
+    segments = is_closed && points > 2 ? points : points - 1
+    for (i = 1; i <= segments; i++) {
+        j = i % points + 1
+        extent[i] = distance(point_x[i], point_y[i], point_x[j], point_y[j])
+        along_x[i] = (point_x[j] - point_x[i]) / extent[i]
+        along_y[i] = (point_y[j] - point_y[i]) / extent[i]
+    }
+    for (i = 1; i <= points; i++)
+        if (segments < points && (i == 1 || i == points)) end_line(i, cap > 0 ? half : 0)
+        else join_segments(i > 1 ? i - 1 : points, i, half, join == 0 ? 9.9 : 1)
+    add_strips(segments, half, colour_written(field[5], 20))
+}
+
+function end_line(i, over) {
+    is_joined[i] = 0
+    overhang[i] = over
+}
+
+# Joins two segments at the point where the second one begins, up to a most for the tangent of half the turn there. By
+# more, and where a segment is too short, each has an end of its own, which reaches over the point.
+function join_segments(before, i, half, most,    cosine, tangent, length_there) {
+    cosine = along_x[before] * along_x[i] + along_y[before] * along_y[i]
+    tangent = cosine > -0.9999 ? sqrt(least(1, 1 - cosine < 0 ? 0 : 1) * (1 - cosine) / (1 + cosine)) : 200
+    length_there = least(extent[before], extent[i])
+    is_joined[i] = tangent <= most && half * tangent <= length_there / 2
+    overhang[i] = half * (tangent <= most ? tangent : 1)
+    if (is_joined[i]) {
+        side_x[i] = -half * (along_y[before] + along_y[i]) / (1 + cosine)
+        side_y[i] = half * (along_x[before] + along_x[i]) / (1 + cosine)
+    }
+}
+
+# Adds the polygons of the segments. A new one begins where two are not joined, or one crosses another, as by the
+# even-odd rule the crossing would be open.
+function add_strips(segments, half, colour,    i, j, first, most) {
+    most = ceiling(segments / ceiling(segments / most_segments))
+    first = 1
+    for (i = 1; i <= segments; i++) {
+        j = i % points + 1
+        if (i == first) {
+            sides = 0
+            left_side = right_side = ""
+            add_side(i, i, -1, half)
+        }
+        add_side(j, i, 1, half)
+        if (i == segments || !is_joined[j] || i - first + 1 == most || is_crossed(first, i + 1)) {
+            add_figure("2 3", colour, "0 0 -1 0 0 " 2 * sides + 1 "\n\t" left_side right_side side_begin "\n")
+            outlined++
+            first = i + 1
+        }
+    }
+}
+
+# Adds the point i to both sides of a strip: the begin of a segment (-1), or its end (1).
+function add_side(i, segment, way, half,    px, py, dx, dy) {
+    px = point_x[i]
+    py = point_y[i]
+    if (is_joined[i]) {
+        dx = side_x[i]
+        dy = side_y[i]
+    } else {
+        px += way * overhang[i] * along_x[segment]
+        py += way * overhang[i] * along_y[segment]
+        dx = -half * along_y[segment]
+        dy = half * along_x[segment]
+    }
+    left_side = left_side point_text(px + dx, py + dy)
+    right_side = point_text(px - dx, py - dy) right_side
+    if (!sides++) side_begin = left_side
+}
+
+# Whether this segment meets another one from the first on, but for the one before it.
+function is_crossed(first, segment,    i) {
+    for (i = first; i < segment - 1; i++) if (meets(i, segment)) return 1
+    return 0
+}
+
+function meets(a, b,    c, d) {
+    c = a % points + 1
+    d = b % points + 1
+    return d != a && is_between(point_x[a], point_x[c], point_x[b], point_x[d]) && \
+        is_between(point_y[a], point_y[c], point_y[b], point_y[d]) && \
+        turn_of(a, c, b) * turn_of(a, c, d) <= 0 && turn_of(b, d, a) * turn_of(b, d, c) <= 0
+}
+
+# Whether the numbers from a to b and those from c to d have one in common.
+function is_between(a, b, c, d) { return least(a, b) <= -least(-c, -d) && least(c, d) <= -least(-a, -b) }
+
+function turn_of(a, b, c) {
+    return (point_x[b] - point_x[a]) * (point_y[c] - point_y[a]) - (point_y[b] - point_y[a]) * (point_x[c] - point_x[a])
+}
+
+# Colours.
 
 function add_colour(n, rgb) {
     if (kept) refuse(line, "a colour behind a figure")
@@ -122,72 +595,6 @@ function add_colour(n, rgb) {
     if (n < 32 || n > 543 || field[3] !~ /^#[0-9a-fA-F]*$/ || length(rgb) != 6) refuse(line, "no colour of FIG")
     value[n] = rgb
     if (!(rgb in number)) number[rgb] = n
-}
-
-function add_ellipse(    kind, x, y, a, b, turn, points, i, t) {
-    kind = field[2] < 3 ? "ellipse" : "circle"
-    x = field[13]; y = field[14]; a = field[15]; b = field[16]
-    turn = kind == "circle" && a == b ? 0 : field[12]
-    if (!(x * x + y * y + a * a + b * b + turn * turn < 1e18) || tolower(turn) ~ /[a-z]/)
-        leave_out(kind, x, y, ": its numbers are none of FIG")
-    else if (a < 1 || b < 1) leave_out(kind, x, y, ": it has no extent")
-    else if (is_filled(kind, x, y)) {
-        if (turn == 0) {
-            if (kind == "circle" && a != b) {
-                field[2] = 1
-                change("it becomes an ellipse")
-            }
-            for (i = 17; i <= 20; i++) points = points " " field[i]
-            keep("1 " field[2], kind, x, y, "1 0.0000 " x " " y " " a " " b points "\n")
-        } else if (cos(turn) * cos(turn) < 0.00000001) {
-            change("its turn by a right angle becomes other radii")
-            keep("1 1", kind, x, y, "1 0.0000 " x " " y " " b " " a " " x " " y " " x + b " " y + a "\n")
-        } else {
-            for (i = 0; i <= 64; i++) {
-                t = i % 64 * 3.14159265358979 / 32
-                points = points " " round(x + a * cos(t) * cos(turn) + b * sin(t) * sin(turn)) \
-                    " " round(y - a * cos(t) * sin(turn) + b * sin(t) * cos(turn))
-            }
-            change("it is turned, and becomes a polygon")
-            keep("2 3", kind, x, y, "0 0 -1 0 0 65\n\t" points "\n")
-        }
-    }
-}
-
-# The points begin behind this field.
-function add_polyline(at,    n, kind, x, y, points, i) {
-    n = field[16]
-    kind = polylines[field[2]]
-    x = field[at + 1]; y = field[at + 2]
-    if (kind == "") refuse(line, "no polyline of FIG has the sub type " field[2])
-    if (kind == "picture") leave_out(kind, x, y, "")
-    else if (is_filled(kind, x, y)) {
-        for (i = 1; i <= n; i++) points = points " " field[at + 2 * i - 1] " " field[at + 2 * i]
-        if (field[at + 2 * n - 1] != x || field[at + 2 * n] != y) {
-            n++
-            points = points " " x " " y
-            change("its ends are joined")
-        }
-        if (field[2] == 4) change("its corners are not round any more")
-        if (n < 4) leave_out(kind, x, y, ": it has no area")
-        else if (n > 65) leave_out(kind, x, y, ": it has " n - 1 " points, and 64 are the most")
-        else keep("2 " (kind == "box" && n == 5 ? 2 : 3), kind, x, y, "0 0 -1 0 0 " n "\n\t" points "\n")
-    }
-}
-
-function is_filled(kind, x, y) {
-    if (field[9] < 0) leave_out(kind, x, y, ": it has no fill")
-    return field[9] >= 0
-}
-
-function change(what) { changes = changes (changes == "" ? "" : "; ") what }
-
-# Keeps the figure with these first and last fields, filled in full and without outline.
-function keep(first, kind, x, y, last,    n) {
-    n = colour_written(field[6], field[9])
-    if (field[4] != 0) change("its outline is left out")
-    if (changes != "") told("plain: line " line ": " kind " at " x "," y ": " changes)
-    figure[++kept] = comments first " 0 0 " n " " n " " field[7] " -1 20 0.000 " last
 }
 
 # The number of the colour that this one has where an area is filled with this style.
