@@ -53,25 +53,29 @@ def window_of(text):
     return left, top, int(width / UNITS) + 3, int(height / UNITS) + 3
 
 
-def picture(ppm):
-    """The colours of a raw PPM, by rows."""
+def picture(ppm, columns, rows):
+    """The colours of a raw PPM, by rows; one that is larger gives its left and lower part."""
     fields = re.match(rb'P6\s+(?:#[^\n]*\s+)*(\d+)\s+(\d+)\s+255\s', ppm)
-    pixels = ppm[fields.end():]
-    return [pixels[at:at + 3] for at in range(0, len(pixels), 3)]
+    width, height = int(fields[1]), int(fields[2])
+    at = range(fields.end() + 3 * width * (height - rows), len(ppm), 3 * width)
+    return [ppm[row + 3 * column:row + 3 * column + 3] for row in at for column in range(columns)]
 
 
 def by_fig2dev(text, left, top, columns, rows):
     """The picture by fig2dev; a white box beneath all gives it the window."""
     right, bottom = left + columns * UNITS, top + rows * UNITS
-    box = f'2 2 0 0 7 7 999 -1 20 0.000 0 0 -1 0 0 5\n {left} {top} {right} {top} {right} {bottom} {left} {bottom} {left} {top}\n'
-    return picture(subprocess.run(['fig2dev', '-L', 'ppm'], input=text + box.encode(), capture_output=True).stdout)
+    corners = f'{left} {top} {right} {top} {right} {bottom} {left} {bottom} {left} {top}'
+    box = f'2 2 0 0 7 7 999 -1 20 0.000 0 0 -1 0 0 5\n {corners}\n'
+    run = subprocess.run(['fig2dev', '-L', 'ppm'], input=text + box.encode(), capture_output=True)
+    return picture(run.stdout, columns, rows)
 
 
 def by_figgroup(plain, left, top, columns, rows):
     """The picture by figgroup, of the middle of each pixel."""
-    words = [f'--x={left + UNITS // 2}', f'--y={top + UNITS // 2}', f'--step={UNITS}', f'--width={columns}', f'--height={rows}']
-    run = subprocess.run([ROOT / 'bin/figgroup', 'repaint', *words], input=plain, capture_output=True)
-    return picture(run.stdout)
+    corner = [f'--x={left + UNITS // 2}', f'--y={top + UNITS // 2}']
+    size = [f'--step={UNITS}', f'--width={columns}', f'--height={rows}']
+    run = subprocess.run([ROOT / 'bin/figgroup', 'repaint', *corner, *size], input=plain, capture_output=True)
+    return picture(run.stdout, columns, rows)
 
 
 def differs(one, other):

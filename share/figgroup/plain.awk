@@ -124,8 +124,8 @@ function change(what) { if (index(changes, what) == 0) changes = changes (change
 function fields_wanted() {
     if (field[1] == 0) return 3
     if (field[1] == 1) return 20
-    if (field[1] == 2) return count < 16 ? 16 : 16 + arrows(14) + 2 * points_told(16)
-    if (field[1] == 3) return count < 14 ? 14 : 14 + arrows(12) + 3 * points_told(14)
+    if (field[1] == 2) return count < 16 ? 16 : 16 + arrows(14) + 2 * count_of(16)
+    if (field[1] == 3) return count < 14 ? 14 : 14 + arrows(12) + 3 * count_of(14)
     if (field[1] == 5) return count < 22 ? 22 : 22 + arrows(13)
     if (field[1] == 6) return 5
     if (field[1] == -6) return 1
@@ -135,10 +135,7 @@ function fields_wanted() {
 # How many fields the arrows have, whose switches are this field and the next.
 function arrows(at) { return 5 * ((field[at] != 0) + (field[at + 1] != 0)) }
 
-function points_told(at) {
-    if (field[at] !~ /^[0-9]+$/) refuse(line, "its count of points is " field[at])
-    return field[at]
-}
+function count_of(at) { return field[at] ~ /^[0-9]+$/ ? field[at] : refuse(line, "its count of points is " field[at]) }
 
 function are_numbers(    i) {
     for (i = 1; i <= count; i++) {
@@ -161,8 +158,8 @@ function add_object() {
         if (kind == "") refuse(line, "no object of FIG begins with " field[1] " " field[2])
         changes = ""
         begun = figures
-        beyond = full = outlined = 0
-        if (field[1] == 1) draw_ellipse(field[13], field[14], field[15], field[16])
+        beyond = full = 0
+        if (field[1] == 1) draw_ellipse(field[13], field[14], field[15], field[16], field[12])
         else if (field[1] == 2) draw_polyline(16 + arrows(14))
         else if (field[1] == 3) draw_spline(14 + arrows(12))
         else draw_arc()
@@ -179,15 +176,15 @@ function is_drawn(at_x, at_y) {
 }
 
 # Keeps the figures that were made of the object, all of them or none.
-function keep_object(rank, why) {
-    if (outlined) {
-        change((figures - begun > outlined ? "its outline becomes " : "it becomes ") \
-            (outlined == 1 ? "a polygon" : outlined " polygons"))
+function keep_object(rank) {
+    if (figures > filled) {
+        change((filled > begun ? "its outline becomes " : "it becomes ") \
+            (figures == filled + 1 ? "a polygon" : figures - filled " polygons"))
         if (field[3] > 0) change("its dashes are joined")
     }
     if (beyond) leave_out(": it reaches beyond " most_coordinate)
     else if (full) leave_out(": a drawing has at most " most_figures " figures")
-    else if (figures == begun) leave_out(why)
+    else if (figures == begun) leave_out(is_filled() ? ": it has no area" : ": it has no fill")
     else {
         if (changes != "") told("plain: line " line ": " kind " at " x "," y ": " changes)
         name[++kept] = kind "-" line
@@ -223,61 +220,53 @@ function end_compound(    rank, first, last) {
     if (first) append(level, 1, first, last)
 }
 
-# Kinds of objects. Each makes a path: points that are joined in order.
+# Kinds of objects. Each makes a path, points that are joined in order, and fills it, and draws a line along it.
 
-function draw_ellipse(cx, cy, a, b,    turn, shape, end) {
+function draw_ellipse(cx, cy, a, b, turn,    half) {
     if (!is_drawn(cx, cy)) return
-    turn = kind == "circle" && a == b ? 0 : field[12]
+    half = half_width(field[4])
+    if (kind == "circle" && a == b) turn = 0
     if (a < 1 || b < 1) {
         leave_out(": it has no extent")
         return
     }
-    shape = field[2]
-    end = " " field[17] " " field[18] " " field[19] " " field[20]
-    if (turn != 0 && cos(turn) * cos(turn) < 0.00000001) {
-        if (is_filled()) change("its turn by a right angle becomes other radii")
-        turn = a; a = b; b = turn
-        turn = 0
-        shape = 1
-        end = " " cx " " cy " " cx + a " " cy + b
-    } else if (turn == 0 && kind == "circle" && a != b) {
-        if (is_filled()) change("it becomes an ellipse")
-        shape = 1
+    if (is_filled()) fill_ellipse(cx, cy, a, b, turn)
+    filled = figures
+    if (field[4] > 0 && least(a, b) > half) {
+        begin_ellipse(cx, cy, a, b, turn, arc_steps(greatest(a, b), 2 * pi))
+        stroke(1, half, 0, 1)
+    } else if (field[4] > 0) {
+        begin_ellipse(cx, cy, a + half, b + half, turn, most_corners)
+        fill_path(0, colour_written(field[5], 20))
     }
-    points = 0
-    add_arc(cx, cy, a, b, turn, 0, 2 * pi, 64)
-    points--
-    if (is_filled() && turn == 0) {
-        add_figure("1 " shape, colour_written(field[6], field[9]), "1 0.0000 " cx " " cy " " a " " b end "\n")
-        check_reach(cx, cy)
-        check_reach(a, b)
-    } else if (is_filled()) {
+    keep_object(3)
+}
+
+function fill_ellipse(cx, cy, a, b, turn,    colour, ends) {
+    ends = point_text(field[17], field[18]) point_text(field[19], field[20])
+    if (turn != 0 && cos(turn) * cos(turn) >= 0.00000001) {
         change("it is turned, and becomes a polygon")
-        fill_path(0)
+        begin_ellipse(cx, cy, a, b, turn, most_corners)
+        fill_path(0, colour_written(field[6], field[9]))
+    } else if (turn != 0) {
+        change("its turn by a right angle becomes other radii")
+        add_ellipse(1, colour_written(field[6], field[9]), cx, cy, b, a, point_text(cx, cy) point_text(cx + b, cy + a))
+    } else {
+        if (kind == "circle" && a != b) change("it becomes an ellipse")
+        add_ellipse(kind == "circle" && a != b ? 1 : field[2], colour_written(field[6], field[9]), cx, cy, a, b, ends)
     }
-    if (field[4] > 0 && (a <= half_width(field[4]) || b <= half_width(field[4])))
-        add_disc(cx, cy, a + half_width(field[4]), b + half_width(field[4]))
-    else if (field[4] > 0) {
-        points = 0
-        add_arc(cx, cy, a, b, turn, 0, 2 * pi, arc_steps(a > b ? a : b, 2 * pi))
-        points--
-        stroke(1, field[4], 0, 1)
-    }
-    keep_object(3, ": it has no fill")
 }
 
 # The points begin behind this field.
-function draw_polyline(at,    is_closed, is_box) {
+function draw_polyline(at,    i, is_closed) {
     if (!is_drawn(field[at + 1], field[at + 2])) return
-    read_points(at, field[16])
-    is_closed = points > 1 && point_x[1] == point_x[points] && point_y[1] == point_y[points]
-    if (is_closed) points--
-    else if (is_filled()) change("its ends are joined")
-    is_box = field[2] == 2 && points == 4
-    if (field[2] == 4 && field[13] > 0) round_corners(field[13] * unit)
-    if (is_filled()) fill_path(is_box)
-    draw_line(is_closed || field[2] != 1, 12, 14, field[11])
-    keep_object(4, is_filled() ? ": it has no area" : ": it has no fill")
+    points = 0
+    for (i = 1; i <= field[16]; i++) add_point(field[at + 2 * i - 1], field[at + 2 * i])
+    is_closed = points > 1 && is_same(1, points)
+    if (!is_closed && is_filled()) change("its ends are joined")
+    if (field[2] == 4 && points > 3) round_corners(field[13] * unit)
+    draw_path(is_closed || field[2] != 1, field[12], field[11], 14, 16)
+    keep_object(4)
 }
 
 function draw_arc(    from, sweep, radius) {
@@ -290,35 +279,51 @@ function draw_arc(    from, sweep, radius) {
     points = 0
     add_arc(field[15], field[16], radius, radius, 0, from, sweep, arc_steps(radius, sweep))
     if (field[2] == 2) add_point(field[15], field[16])
-    if (is_filled()) fill_path(0)
-    draw_line(field[2] == 2, 11, 13, 1)
-    keep_object(2, is_filled() ? ": it has no area" : ": it has no fill")
+    draw_path(field[2] == 2, field[11], 1, 13, 22)
+    keep_object(2)
 }
 
 # The points begin behind this field, and behind them the shape factors.
-function draw_spline(at,    n, is_closed) {
+function draw_spline(at,    n, is_closed, i, before, behind, last, t) {
     if (!is_drawn(field[at + 1], field[at + 2])) return
     n = field[14]
     is_closed = field[2] % 2
-    bend_spline(at, n, is_closed)
-    if (is_filled()) fill_path(0)
-    draw_line(is_closed, 11, 12, 1)
-    keep_object(4, is_filled() ? ": it has no area" : ": it has no fill")
+    points = 0
+    for (i = 1; i <= n - !is_closed; i++) {
+        before = i > 1 ? i - 1 : is_closed ? n : 1
+        behind = i % n + 1
+        last = behind < n ? behind + 1 : is_closed ? 1 : n
+        for (t = 0; t < 1; t += 1 / 8)
+            add_blend(t, at + 2 * before, at + 2 * i, at + 2 * behind, at + 2 * last, at + 2 * n + i, at + 2 * n + behind)
+    }
+    if (!is_closed && n > 0) add_point(field[at + 2 * n - 1], field[at + 2 * n])
+    draw_path(is_closed, field[11], 1, 12, 14)
+    keep_object(4)
+}
+
+# Fills the path, and draws a line along it, with the arrows of which the switches are this field and the next, and the
+# own fields begin behind the last field.
+function draw_path(is_closed, cap, join, switches, last,    i, n) {
+    if (is_closed) leave_end()
+    if (is_filled()) fill_path(field[1] == 2 && field[2] == 2 && points == 4, colour_written(field[6], field[9]))
+    filled = figures
+    if (field[4] <= 0 || !points) return
+    if (!is_closed && field[switches]) aim_arrow(++n, last, points, -1)
+    if (!is_closed && field[switches + 1]) aim_arrow(++n, last + 5 * (field[switches] != 0), 1, 1)
+    stroke(is_closed, half_width(field[4]), cap, join)
+    for (i = 1; i <= n; i++) draw_arrow(i, arrow_at[i])
 }
 
 function is_filled() { return field[9] >= 0 }
 
 # Paths.
 
-function add_point(px, py) {
-    point_x[++points] = px
-    point_y[points] = py
-}
+function add_point(px, py) { point_x[++points] = px; point_y[points] = py }
 
-function read_points(at, n,    i) {
-    points = 0
-    for (i = 1; i <= n; i++) add_point(field[at + 2 * i - 1], field[at + 2 * i])
-}
+function is_same(i, k) { return point_x[i] == point_x[k] && point_y[i] == point_y[k] }
+
+# Leaves out the last point of a path that ends where it begins.
+function leave_end() { if (points > 1 && is_same(1, points)) points-- }
 
 # Adds an arc of an ellipse with the radii a and b, by so many steps. Angles rise clockwise, as y goes down.
 function add_arc(cx, cy, a, b, turn, from, sweep, steps,    i, t) {
@@ -335,41 +340,29 @@ function arc_steps(radius, sweep,    steps) {
     return steps < 60 ? steps : 60
 }
 
-# Makes the box of the points one with round corners of this radius.
-function round_corners(radius,    i, least_x, least_y, most_x, most_y) {
-    least_x = most_x = point_x[1]
-    least_y = most_y = point_y[1]
-    for (i = 2; i <= points; i++) {
-        least_x = least(least_x, point_x[i]); most_x = -least(-most_x, -point_x[i])
-        least_y = least(least_y, point_y[i]); most_y = -least(-most_y, -point_y[i])
-    }
-    radius = least(radius, least(most_x - least_x, most_y - least_y) / 2)
+# Makes the box with two opposite corners at the points 1 and 3 one with round corners of this radius.
+function round_corners(radius,    left, top, right, bottom) {
+    left = least(point_x[1], point_x[3]); right = greatest(point_x[1], point_x[3])
+    top = least(point_y[1], point_y[3]); bottom = greatest(point_y[1], point_y[3])
+    radius = least(radius, least(right - left, bottom - top) / 2)
     points = 0
-    add_arc(most_x - radius, most_y - radius, radius, radius, 0, 0, pi / 2, 6)
-    add_arc(least_x + radius, most_y - radius, radius, radius, 0, pi / 2, pi / 2, 6)
-    add_arc(least_x + radius, least_y + radius, radius, radius, 0, pi, pi / 2, 6)
-    add_arc(most_x - radius, least_y + radius, radius, radius, 0, 3 * pi / 2, pi / 2, 6)
+    add_arc(right - radius, bottom - radius, radius, radius, 0, 0, pi / 2, 6)
+    add_arc(left + radius, bottom - radius, radius, radius, 0, pi / 2, pi / 2, 6)
+    add_arc(left + radius, top + radius, radius, radius, 0, pi, pi / 2, 6)
+    add_arc(right - radius, top + radius, radius, radius, 0, 3 * pi / 2, pi / 2, 6)
 }
 
-# The curve of an X-spline (Blanc and Schlick, SIGGRAPH 95): between each two of its n points eight steps.
-function bend_spline(at, n, is_closed,    i, k, before, next_point, after) {
+function begin_ellipse(cx, cy, a, b, turn, steps) {
     points = 0
-    for (i = 1; i <= n - !is_closed; i++) {
-        before = i > 1 ? i - 1 : is_closed ? n : 1
-        next_point = i % n + 1
-        after = next_point < n ? next_point + 1 : is_closed ? 1 : n
-        for (k = 0; k < 8; k++)
-            blend(k / 8, at + 2 * before, at + 2 * i, at + 2 * next_point, at + 2 * after, \
-                field[at + 2 * n + i], field[at + 2 * n + next_point])
-    }
-    if (!is_closed) add_point(field[at + 2 * n - 1], field[at + 2 * n])
+    add_arc(cx, cy, a, b, turn, 0, 2 * pi, steps)
+    points--
 }
 
-# Adds the point at t between the second and the third of four points, whose shape factors are s and r. The points are
-# told by the fields of their y.
-function blend(t, first, second, third, fourth, s, r,    a, b, c, d, sum) {
-    s = least(1, -least(1, -s))
-    r = least(1, -least(1, -r))
+# Adds the point at t of an X-spline (Blanc and Schlick, SIGGRAPH 95) between the second and the third of four points,
+# of which the fields of y are told. Behind them stand the fields of the shape factors of these two.
+function add_blend(t, first, second, third, fourth, s, r,    a, b, c, d, sum) {
+    s = least(1, greatest(-1, field[s]))
+    r = least(1, greatest(-1, field[r]))
     a = s < 0 ? tail(-t, -s) : t < s ? approach((s - t) / (1 + s), 1 + s) : 0
     c = s < 0 ? pull(t, -s) : approach((t + s) / (1 + s), 1 + s)
     b = r < 0 ? pull(1 - t, -r) : approach((1 - t + r) / (1 + r), 1 + r)
@@ -389,23 +382,24 @@ function pull(u, q) { return u * (q + u * (2 * q + u * (8 - 12 * q + u * (14 * q
 
 function tail(u, q) { return u * (q + u * (2 * q - u * u * (2 * q + u * q))) }
 
-function ceiling(x) { return int(x) < x ? int(x) + 1 : int(x) }
-
 function least(a, b) { return a + 0 < b + 0 ? a + 0 : b + 0 }
+
+function greatest(a, b) { return -least(-a, -b) }
 
 function distance(ax, ay, bx, by) { return sqrt((bx - ax) * (bx - ax) + (by - ay) * (by - ay)) }
 
 # Leaves out the points that change the path least until so many are left: in each round those that are nearer than a
-# bound to the line between their neighbours, but no two neighbours. The bound doubles.
-function thin_path(most,    bound) {
-    for (bound = 1; points > most; bound *= 2) thin_once(most, bound)
+# bound to the line between their neighbours, but no two neighbours. The bound doubles up to the last one.
+function thin_path(most, last,    bound) {
+    for (bound = 1; points > most && bound <= last; bound *= 2) thin_once(most, bound)
 }
 
+# Points that equal the one before them are left out, too.
 function thin_once(most, bound,    i, n, there, dropped) {
     there = points
     n = 1
     for (i = 2; i <= points; i++) {
-        dropped = !dropped && there > most && i < points && height_over(n, i, i + 1) < bound
+        dropped = is_same(n, i) || !dropped && there > most && i < points && height_over(n, i, i + 1) < bound
         if (dropped) there--
         else {
             n++
@@ -422,19 +416,8 @@ function height_over(a, i, b,    chord, dx, dy) {
     dy = point_y[i] - point_y[a]
     chord = distance(point_x[a], point_y[a], point_x[b], point_y[b])
     if (chord == 0) return sqrt(dx * dx + dy * dy)
-    chord = (dx * (point_y[b] - point_y[a]) - dy * (point_x[b] - point_x[a])) / chord
-    return chord < 0 ? -chord : chord
-}
-
-function drop_repeated(is_closed,    i, n) {
-    n = 1
-    for (i = 2; i <= points; i++) if (point_x[i] != point_x[n] || point_y[i] != point_y[n]) {
-        n++
-        point_x[n] = point_x[i]
-        point_y[n] = point_y[i]
-    }
-    if (is_closed && n > 1 && point_x[1] == point_x[n] && point_y[1] == point_y[n]) n--
-    points = n
+    dx = (dx * (point_y[b] - point_y[a]) - dy * (point_x[b] - point_x[a])) / chord
+    return dx < 0 ? -dx : dx
 }
 
 # Figures.
@@ -454,47 +437,42 @@ function point_text(px, py) {
 }
 
 # Adds the path as a filled polygon or box.
-function fill_path(is_box,    i, text) {
+function fill_path(is_box, colour,    i, text) {
     if (points > most_corners) {
         change("of its " points " corners " most_corners " are kept")
-        thin_path(most_corners)
+        thin_path(most_corners, 1e10)
     }
     if (points < 3) return
     for (i = 1; i <= points; i++) {
         text = text point_text(point_x[i], point_y[i])
         check_reach(point_x[i] - point_x[1], point_y[i] - point_y[1])
     }
-    add_figure("2 " (is_box ? 2 : 3), colour_written(field[6], field[9]), \
-        "0 0 -1 0 0 " points + 1 "\n\t" text point_text(point_x[1], point_y[1]) "\n")
+    add_polygon(is_box ? 2 : 3, colour, points, text point_text(point_x[1], point_y[1]))
 }
 
-function add_disc(cx, cy, a, b) {
-    check_reach(cx, cy)
-    a = round(a); b = round(b)
-    add_figure("1 " (a == b ? 3 : 1), colour_written(field[5], 20), "1 0.0000 " round(cx) " " round(cy) " " a " " b \
-        " " round(cx) " " round(cy) " " round(cx) + a " " round(cy) + (a == b ? 0 : b) "\n")
-    outlined++
+function add_polygon(shape, colour, n, text) {
+    add_figure("2 " shape, colour, "0 0 -1 0 0 " n + 1 "\n\t" text "\n")
 }
 
-# Draws the path as a line, with the arrows of which the switches are this field and the next.
-function draw_line(is_closed, cap, switches, join) {
-    if (field[4] <= 0) return
-    stroke(is_closed, field[4], field[cap], join)
+function add_ellipse(shape, colour, cx, cy, a, b, ends) {
+    add_figure("1 " shape, colour, "1 0.0000" point_text(cx, cy) point_text(a, b) ends "\n")
 }
 
 # Half the width of a line of this thickness.
-function half_width(thickness) { return (thickness > 1 ? thickness - 1 : 1) * unit / 2 - 0.5 }
+function half_width(thickness) { return thickness * unit / 2 - 0.5 }
 
 # Lines. One of a width becomes polygons along its segments, each with the sides of at most 31 segments.
 
-function stroke(is_closed, thickness, cap, join,    half, segments, i, j) {
-    half = half_width(thickness)
-    drop_repeated(is_closed)
+function stroke(is_closed, half, cap, join,    segments, i, j, colour) {
+    colour = colour_written(field[5], 20)
+    thin_path(most_segments, 4)
+    thin_once(points, 0)
+    if (is_closed) leave_end()
     if (points == 1) {
-        add_disc(point_x[1], point_y[1], half, half)
+        add_ellipse(3, colour, point_x[1], point_y[1], half, half, \
+            point_text(point_x[1], point_y[1]) point_text(point_x[1] + half, point_y[1]))
         return
     }
-    if (points > most_segments) thin_once(3, 4)
     segments = is_closed && points > 2 ? points : points - 1
     for (i = 1; i <= segments; i++) {
         j = i % points + 1
@@ -502,25 +480,21 @@ function stroke(is_closed, thickness, cap, join,    half, segments, i, j) {
         along_x[i] = (point_x[j] - point_x[i]) / extent[i]
         along_y[i] = (point_y[j] - point_y[i]) / extent[i]
     }
-    for (i = 1; i <= points; i++)
-        if (segments < points && (i == 1 || i == points)) end_line(i, cap > 0 ? half : 0)
-        else join_segments(i > 1 ? i - 1 : points, i, half, join == 0 ? 9.9 : 1)
-    add_strips(segments, half, colour_written(field[5], 20))
-}
-
-function end_line(i, over) {
-    is_joined[i] = 0
-    overhang[i] = over
+    for (i = 1; i <= points; i++) {
+        is_joined[i] = 0
+        overhang[i] = cap > 0 ? half : 0
+        if (segments == points || i > 1 && i < points) join_segments(i > 1 ? i - 1 : points, i, half, join == 0 ? 9.9 : 1)
+    }
+    add_strips(segments, half, colour)
 }
 
 # Joins two segments at the point where the second one begins, up to a most for the tangent of half the turn there. By
 # more, and where a segment is too short, each has an end of its own, which reaches over the point.
-function join_segments(before, i, half, most,    cosine, tangent, length_there) {
-    cosine = along_x[before] * along_x[i] + along_y[before] * along_y[i]
-    tangent = cosine > -0.9999 ? sqrt(least(1, 1 - cosine < 0 ? 0 : 1) * (1 - cosine) / (1 + cosine)) : 200
-    length_there = least(extent[before], extent[i])
-    is_joined[i] = tangent <= most && half * tangent <= length_there / 2
+function join_segments(before, i, half, most,    cosine, tangent) {
+    cosine = least(1, along_x[before] * along_x[i] + along_y[before] * along_y[i])
+    tangent = cosine > -0.9999 ? sqrt((1 - cosine) / (1 + cosine)) : 200
     overhang[i] = half * (tangent <= most ? tangent : 1)
+    is_joined[i] = tangent <= most && half * tangent <= least(extent[before], extent[i]) / 2
     if (is_joined[i]) {
         side_x[i] = -half * (along_y[before] + along_y[i]) / (1 + cosine)
         side_y[i] = half * (along_x[before] + along_x[i]) / (1 + cosine)
@@ -530,7 +504,7 @@ function join_segments(before, i, half, most,    cosine, tangent, length_there) 
 # Adds the polygons of the segments. A new one begins where two are not joined, or one crosses another, as by the
 # even-odd rule the crossing would be open.
 function add_strips(segments, half, colour,    i, j, first, most) {
-    most = ceiling(segments / ceiling(segments / most_segments))
+    most = int((segments - 1) / (int((segments - 1) / most_segments) + 1)) + 1  # as many in each
     first = 1
     for (i = 1; i <= segments; i++) {
         j = i % points + 1
@@ -541,8 +515,7 @@ function add_strips(segments, half, colour,    i, j, first, most) {
         }
         add_side(j, i, 1, half)
         if (i == segments || !is_joined[j] || i - first + 1 == most || is_crossed(first, i + 1)) {
-            add_figure("2 3", colour, "0 0 -1 0 0 " 2 * sides + 1 "\n\t" left_side right_side side_begin "\n")
-            outlined++
+            add_polygon(3, colour, 2 * sides, left_side right_side side_begin)
             first = i + 1
         }
     }
@@ -566,25 +539,53 @@ function add_side(i, segment, way, half,    px, py, dx, dy) {
     if (!sides++) side_begin = left_side
 }
 
-# Whether this segment meets another one from the first on, but for the one before it.
-function is_crossed(first, segment,    i) {
-    for (i = first; i < segment - 1; i++) if (meets(i, segment)) return 1
+# Whether this segment meets another one from the first on, but for its neighbours.
+function is_crossed(first, segment,    i, end) {
+    end = segment % points + 1
+    for (i = first; i < segment - 1; i++)
+        if (end != i && turn_of(i, i + 1, segment) * turn_of(i, i + 1, end) <= 0 && \
+                turn_of(segment, end, i) * turn_of(segment, end, i + 1) <= 0) return 1
     return 0
 }
 
-function meets(a, b,    c, d) {
-    c = a % points + 1
-    d = b % points + 1
-    return d != a && is_between(point_x[a], point_x[c], point_x[b], point_x[d]) && \
-        is_between(point_y[a], point_y[c], point_y[b], point_y[d]) && \
-        turn_of(a, c, b) * turn_of(a, c, d) <= 0 && turn_of(b, d, a) * turn_of(b, d, c) <= 0
-}
-
-# Whether the numbers from a to b and those from c to d have one in common.
-function is_between(a, b, c, d) { return least(a, b) <= -least(-c, -d) && least(c, d) <= -least(-a, -b) }
-
 function turn_of(a, b, c) {
     return (point_x[b] - point_x[a]) * (point_y[c] - point_y[a]) - (point_y[b] - point_y[a]) * (point_x[c] - point_x[a])
+}
+
+# Arrows, at the end of a line. The fields of one are its type, its style, its thickness, its width and its height.
+
+# Aims the n-th arrow at the point that is its tip, from the next point (1) or the one before (-1). On a curve that is
+# the first one that is as far as the arrow is high.
+function aim_arrow(n, at, tip, step,    from, far) {
+    for (from = tip + step; from > 1 && from < points; from += step) {
+        far = distance(point_x[from], point_y[from], point_x[tip], point_y[tip])
+        if (far > 0 && (kind == "line" || far > field[at + 5])) break
+    }
+    arrow_at[n] = at
+    tip_x[n] = point_x[tip]
+    tip_y[n] = point_y[tip]
+    aim[n] = points > 1 ? atan2(point_y[tip] - point_y[from], point_x[tip] - point_x[from]) : 0
+}
+
+function draw_arrow(n, at,    wide, high, back) {
+    wide = field[at + 4] / 2
+    high = field[at + 5]
+    back = field[at + 1] == 2 ? 1.25 : field[at + 1] == 3 ? 0.75 : 1
+    points = 0
+    add_arrow_point(n, back * high, wide)
+    add_arrow_point(n, 0, 0)
+    add_arrow_point(n, back * high, -wide)
+    if (back != 1) add_arrow_point(n, high, 0)
+    if (field[at + 1] == 0) stroke(0, half_width(field[at + 3]), 0, 0)
+    else {
+        fill_path(0, field[at + 2] == 0 ? 7 : colour_written(field[5], 20))
+        if (field[at + 2] == 0) stroke(1, half_width(field[at + 3]), 0, 0)
+    }
+}
+
+# Adds the point so far behind the tip of the arrow, and so far beside it.
+function add_arrow_point(n, behind, beside) {
+    add_point(tip_x[n] - behind * cos(aim[n]) - beside * sin(aim[n]), tip_y[n] - behind * sin(aim[n]) + beside * cos(aim[n]))
 }
 
 # Colours.
