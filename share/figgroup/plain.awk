@@ -86,6 +86,7 @@ END {
     if (header < 8) refuse(NR, "the text ends within the header")
     if (count || in_text) refuse(line, "the text ends within this object")
     while (level >= 0) end_compound()
+    if (groups != "") printf "" > groups
     for (i = 1; i <= heads; i++) print head[i]
     for (i = 32; i < 544; i++) if (i in value) print "0 " i " #" value[i]
     for (i = first_of[-1, 1]; i; i = next_of[i]) write_object(i)
@@ -135,7 +136,10 @@ function fields_wanted() {
 # How many fields the arrows have, whose switches are this field and the next.
 function arrows(at) { return 5 * ((field[at] != 0) + (field[at + 1] != 0)) }
 
-function count_of(at) { return field[at] ~ /^[0-9]+$/ ? field[at] : refuse(line, "its count of points is " field[at]) }
+function count_of(at) {
+    if (field[at] !~ /^0*[1-9][0-9]*$/) refuse(line, "its count of points is " field[at])
+    return field[at]
+}
 
 function are_numbers(    i) {
     for (i = 1; i <= count; i++) {
@@ -171,6 +175,7 @@ function is_drawn(at_x, at_y) {
     x = at_x; y = at_y
     if (kind == "picture") leave_out("")
     else if (!are_numbers()) leave_out(": its numbers are none of FIG")
+    else if (figures == most_figures) leave_out(": a drawing has at most " most_figures " figures")
     else return 1
     return 0
 }
@@ -296,7 +301,7 @@ function draw_spline(at,    n, is_closed, i, before, behind, last, t) {
         for (t = 0; t < 1; t += 1 / 8)
             add_blend(t, at + 2 * before, at + 2 * i, at + 2 * behind, at + 2 * last, at + 2 * n + i, at + 2 * n + behind)
     }
-    if (!is_closed && n > 0) add_point(field[at + 2 * n - 1], field[at + 2 * n])
+    if (!is_closed) add_point(field[at + 2 * n - 1], field[at + 2 * n])
     draw_path(is_closed, field[11], 1, 12, 14)
     keep_object(4)
 }
@@ -307,7 +312,7 @@ function draw_path(is_closed, cap, join, switches, last,    i, n) {
     if (is_closed) leave_end()
     if (is_filled()) fill_path(field[1] == 2 && field[2] == 2 && points == 4, colour_written(field[6], field[9]))
     filled = figures
-    if (field[4] <= 0 || !points) return
+    if (field[4] <= 0) return
     if (!is_closed && field[switches]) aim_arrow(++n, last, points, -1)
     if (!is_closed && field[switches + 1]) aim_arrow(++n, last + 5 * (field[switches] != 0), 1, 1)
     stroke(is_closed, half_width(field[4]), cap, join)
@@ -319,7 +324,6 @@ function is_filled() { return field[9] >= 0 }
 # Paths.
 
 function add_point(px, py) { point_x[++points] = px; point_y[points] = py }
-
 function is_same(i, k) { return point_x[i] == point_x[k] && point_y[i] == point_y[k] }
 
 # Leaves out the last point of a path that ends where it begins.
@@ -379,19 +383,15 @@ function approach(u, width,    p) {
 }
 
 function pull(u, q) { return u * (q + u * (2 * q + u * (8 - 12 * q + u * (14 * q - 11 + u * (4 - 5 * q))))) }
-
 function tail(u, q) { return u * (q + u * (2 * q - u * u * (2 * q + u * q))) }
-
 function least(a, b) { return a + 0 < b + 0 ? a + 0 : b + 0 }
-
 function greatest(a, b) { return -least(-a, -b) }
-
 function distance(ax, ay, bx, by) { return sqrt((bx - ax) * (bx - ax) + (by - ay) * (by - ay)) }
 
 # Leaves out the points that change the path least until so many are left: in each round those that are nearer than a
-# bound to the line between their neighbours, but no two neighbours. The bound doubles up to the last one.
+# bound to the line between their neighbours, but no two neighbours. The bound grows up to the last one.
 function thin_path(most, last,    bound) {
-    for (bound = 1; points > most && bound <= last; bound *= 2) thin_once(most, bound)
+    for (bound = 1; points > most && bound <= last; bound *= 4) thin_once(most, bound)
 }
 
 # Points that equal the one before them are left out, too.
@@ -579,7 +579,7 @@ function draw_arrow(n, at,    wide, high, back) {
     if (field[at + 1] == 0) stroke(0, half_width(field[at + 3]), 0, 0)
     else {
         fill_path(0, field[at + 2] == 0 ? 7 : colour_written(field[5], 20))
-        if (field[at + 2] == 0) stroke(1, half_width(field[at + 3]), 0, 0)
+        if (field[at + 2] == 0 || field[at + 3] > 1) stroke(1, half_width(field[at + 3]), 0, 1)
     }
 }
 
@@ -630,7 +630,6 @@ function shaded(n, style,    i, part, rgb) {
 }
 
 function digit(letter) { return index("0123456789abcdef", letter) - 1 }
-
 function round(x) { return x < 0 ? -int(0.5 - x) : int(x + 0.5) }
 
 # The number of this colour, the least free one if it has none.
