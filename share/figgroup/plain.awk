@@ -21,6 +21,7 @@ BEGIN {
     split("1 1 ellipse 1 2 ellipse 1 3 circle 1 4 circle 2 1 line 2 2 box 2 3 polygon 2 4 box 2 5 picture" \
         " 3 0 spline 3 1 spline 3 2 spline 3 3 spline 3 4 spline 3 5 spline 5 1 arc 5 2 arc", words, " ")
     for (i = 1; i in words; i += 3) kinds[words[i], words[i + 1]] = words[i + 2]
+    level = 0  # of compounds
     most_figures = 1000  # in a drawing
     most_corners = 64  # of a polygon
     most_segments = 31  # of a line in one polygon, which has two corners at each end of each
@@ -241,7 +242,7 @@ function draw_ellipse(cx, cy, a, b, turn,    half) {
         begin_ellipse(cx, cy, a, b, turn, arc_steps(greatest(a, b), 2 * pi))
         stroke(1, half, 0, 1)
     } else if (field[4] > 0) {
-        begin_ellipse(cx, cy, a + half, b + half, turn, most_corners)
+        begin_ellipse(cx, cy, a + half, b + half, turn, arc_steps(greatest(a, b) + half, 2 * pi))
         fill_path(0, colour_written(field[5], 20))
     }
     keep_object(3)
@@ -284,7 +285,7 @@ function draw_arc(    from, sweep, radius) {
     points = 0
     add_arc(field[15], field[16], radius, radius, 0, from, sweep, arc_steps(radius, sweep))
     if (field[2] == 2) add_point(field[15], field[16])
-    draw_path(field[2] == 2, field[11], 1, 13, 22)
+    draw_path(field[2] == 2, field[11], 0, 13, 22)
     keep_object(2)
 }
 
