@@ -460,7 +460,7 @@ function add_ellipse(shape, colour, cx, cy, a, b, ends) {
 }
 
 # Half the width of a line of this thickness.
-function half_width(thickness) { return thickness * unit / 2 - 0.5 }
+function half_width(thickness) { return thickness * unit / 2 }
 
 # Lines. One of a width becomes polygons along its segments, each with the sides of at most 31 segments.
 
@@ -631,7 +631,8 @@ function shaded(n, style,    i, part, rgb) {
 }
 
 function digit(letter) { return index("0123456789abcdef", letter) - 1 }
-function round(x) { return x < 0 ? -int(0.5 - x) : int(x + 0.5) }
+# Away from 0 at a half, also where the half was computed a little too small.
+function round(x) { return x < 0 ? -int(0.500001 - x) : int(x + 0.500001) }
 
 # The number of this colour, the least free one if it has none.
 function number_of(rgb,    n) {
