@@ -248,18 +248,20 @@ function draw_ellipse(cx, cy, a, b, turn,    half) {
     keep_object(3)
 }
 
-function fill_ellipse(cx, cy, a, b, turn,    colour, ends) {
-    ends = point_text(field[17], field[18]) point_text(field[19], field[20])
-    if (turn != 0 && cos(turn) * cos(turn) >= 0.00000001) {
+function fill_ellipse(cx, cy, a, b, turn,    colour, is_uneven) {
+    colour = colour_written(field[6], field[9])
+    is_uneven = kind == "circle" && a != b
+    if (turn == 0) {
+        if (is_uneven) change("it becomes an ellipse")
+        add_ellipse(is_uneven ? 1 : field[2], colour, cx, cy, a, b, \
+            point_text(field[17], field[18]) point_text(field[19], field[20]))
+    } else if (cos(turn) * cos(turn) < 0.00000001) {
+        change("its turn by a right angle becomes other radii")
+        add_ellipse(1, colour, cx, cy, b, a, point_text(cx, cy) point_text(cx + b, cy + a))
+    } else {
         change("it is turned, and becomes a polygon")
         begin_ellipse(cx, cy, a, b, turn, most_corners)
-        fill_path(0, colour_written(field[6], field[9]))
-    } else if (turn != 0) {
-        change("its turn by a right angle becomes other radii")
-        add_ellipse(1, colour_written(field[6], field[9]), cx, cy, b, a, point_text(cx, cy) point_text(cx + b, cy + a))
-    } else {
-        if (kind == "circle" && a != b) change("it becomes an ellipse")
-        add_ellipse(kind == "circle" && a != b ? 1 : field[2], colour_written(field[6], field[9]), cx, cy, a, b, ends)
+        fill_path(0, colour)
     }
 }
 
@@ -300,7 +302,8 @@ function draw_spline(at,    n, is_closed, i, before, behind, last, t) {
         behind = i % n + 1
         last = behind < n ? behind + 1 : is_closed ? 1 : n
         for (t = 0; t < 1; t += 1 / 8)
-            add_blend(t, at + 2 * before, at + 2 * i, at + 2 * behind, at + 2 * last, at + 2 * n + i, at + 2 * n + behind)
+            add_blend(t, at + 2 * before, at + 2 * i, at + 2 * behind, at + 2 * last, \
+                at + 2 * n + i, at + 2 * n + behind)
     }
     if (!is_closed) add_point(field[at + 2 * n - 1], field[at + 2 * n])
     draw_path(is_closed, field[11], 1, 12, 14)
@@ -404,8 +407,7 @@ function thin_once(most, bound,    i, n, there, dropped) {
         if (dropped) there--
         else {
             n++
-            point_x[n] = point_x[i]
-            point_y[n] = point_y[i]
+            point_x[n] = point_x[i]; point_y[n] = point_y[i]
         }
     }
     points = n
@@ -413,8 +415,7 @@ function thin_once(most, bound,    i, n, there, dropped) {
 
 # How far the point i is from the line through a and b, or from a where both are one.
 function height_over(a, i, b,    chord, dx, dy) {
-    dx = point_x[i] - point_x[a]
-    dy = point_y[i] - point_y[a]
+    dx = point_x[i] - point_x[a]; dy = point_y[i] - point_y[a]
     chord = distance(point_x[a], point_y[a], point_x[b], point_y[b])
     if (chord == 0) return sqrt(dx * dx + dy * dy)
     dx = (dx * (point_y[b] - point_y[a]) - dy * (point_x[b] - point_x[a])) / chord
@@ -478,13 +479,13 @@ function stroke(is_closed, half, cap, join,    segments, i, j, colour) {
     for (i = 1; i <= segments; i++) {
         j = i % points + 1
         extent[i] = distance(point_x[i], point_y[i], point_x[j], point_y[j])
-        along_x[i] = (point_x[j] - point_x[i]) / extent[i]
-        along_y[i] = (point_y[j] - point_y[i]) / extent[i]
+        along_x[i] = (point_x[j] - point_x[i]) / extent[i]; along_y[i] = (point_y[j] - point_y[i]) / extent[i]
     }
     for (i = 1; i <= points; i++) {
         is_joined[i] = 0
         overhang[i] = cap > 0 ? half : 0
-        if (segments == points || i > 1 && i < points) join_segments(i > 1 ? i - 1 : points, i, half, join == 0 ? 9.9 : 1)
+        if (segments == points || i > 1 && i < points)
+            join_segments(i > 1 ? i - 1 : points, i, half, join == 0 ? 9.9 : 1)
     }
     add_strips(segments, half, colour)
 }
@@ -524,16 +525,12 @@ function add_strips(segments, half, colour,    i, j, first, most) {
 
 # Adds the point i to both sides of a strip: the begin of a segment (-1), or its end (1).
 function add_side(i, segment, way, half,    px, py, dx, dy) {
-    px = point_x[i]
-    py = point_y[i]
+    px = point_x[i]; py = point_y[i]
     if (is_joined[i]) {
-        dx = side_x[i]
-        dy = side_y[i]
+        dx = side_x[i]; dy = side_y[i]
     } else {
-        px += way * overhang[i] * along_x[segment]
-        py += way * overhang[i] * along_y[segment]
-        dx = -half * along_y[segment]
-        dy = half * along_x[segment]
+        px += way * overhang[i] * along_x[segment]; py += way * overhang[i] * along_y[segment]
+        dx = -half * along_y[segment]; dy = half * along_x[segment]
     }
     left_side = left_side point_text(px + dx, py + dy)
     right_side = point_text(px - dx, py - dy) right_side
@@ -563,8 +560,7 @@ function aim_arrow(n, at, tip, step,    from, far) {
         if (far > 0 && (kind == "line" || far > field[at + 5])) break
     }
     arrow_at[n] = at
-    tip_x[n] = point_x[tip]
-    tip_y[n] = point_y[tip]
+    tip_x[n] = point_x[tip]; tip_y[n] = point_y[tip]
     aim[n] = points > 1 ? atan2(point_y[tip] - point_y[from], point_x[tip] - point_x[from]) : 0
 }
 
@@ -586,7 +582,8 @@ function draw_arrow(n, at,    wide, high, back) {
 
 # Adds the point so far behind the tip of the arrow, and so far beside it.
 function add_arrow_point(n, behind, beside) {
-    add_point(tip_x[n] - behind * cos(aim[n]) - beside * sin(aim[n]), tip_y[n] - behind * sin(aim[n]) + beside * cos(aim[n]))
+    add_point(tip_x[n] - behind * cos(aim[n]) - beside * sin(aim[n]), \
+        tip_y[n] - behind * sin(aim[n]) + beside * cos(aim[n]))
 }
 
 # Colours.
