@@ -270,6 +270,8 @@ done
 for awk in $awks; do
     compare "plain by $awk, 1,001 boxes" "$examples/plain/full.txt" plain_full
 done
+compare "program" "$examples/program/expected.txt" env PATH="$root/bin:$PATH" \
+    python3 "$examples/program/program.py" "$examples/red-box/input.jsonl"
 compare "random takes" /dev/null env PATH="$root/bin:$PATH" python3 "$examples/random_takes.py" 1 400 30
 
 # In place of each window stands what xfig saved of it, named by the site and how many operations it had.
