@@ -83,6 +83,16 @@ plain_groups() {
     "$awk" -v groups="$pixels" -f "$root/share/figgroup/plain.awk" < "$1" > /dev/null 2>&1 && cat "$pixels"
 }
 
+# What is told of a polygon with 20,000 corners far from each other, and what an import tells then.
+plain_far() {
+    {
+        head -n 9 "$examples/plain/lines.fig"
+        echo '2 3 0 0 0 4 50 -1 20 0.000 0 0 -1 0 0 20000'
+        "$awk" 'BEGIN { for (i = 0; i < 20000; i++) print i * 7919 % 500000, i * 10007 % 500000 }'
+    } | "$awk" -f "$root/share/figgroup/plain.awk" 2>&1 > "$pixels"
+    plain_faults "$pixels"
+}
+
 # What is told at last of a drawing of 1,001 boxes.
 plain_full() {
     {
@@ -269,6 +279,7 @@ done
 
 for awk in $awks; do
     compare "plain by $awk, 1,001 boxes" "$examples/plain/full.txt" plain_full
+    compare "plain by $awk, 20,000 corners" "$examples/plain/far.txt" plain_far
 done
 compare "program" "$examples/program/expected.txt" env PATH="$root/bin:$PATH" \
     python3 "$examples/program/program.py" "$examples/red-box/input.jsonl"

@@ -442,7 +442,7 @@ function point_text(px, py) {
 function fill_path(is_box, colour,    i, text) {
     if (points > most_corners) {
         change("of its " points " corners " most_corners " are kept")
-        thin_path(most_corners, 1e10)
+        thin_path(most_corners, 1e30)
     }
     if (points < 3) return
     for (i = 1; i <= points; i++) {
