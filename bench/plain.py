@@ -1,10 +1,10 @@
 #!/usr/bin/env python3
 """Measures what share/figgroup/plain.awk keeps of the FIG drawings below a folder: bench/plain.py [FOLDER [NUMBER]].
 
-Of all drawings: how many of their objects come in. Of NUMBER drawings at random, always the same: in how many pixels the
-picture by `figgroup repaint` differs from that by fig2dev, beside the pixels that fig2dev paints. Both have 80 dots an
-inch, fig2dev's default, which are 15 units a pixel. The folder is that of Debian's xfig-libs where none is given. Wants
-fig2dev and ghostscript."""
+Of all drawings it tells how many of their objects come in. Of NUMBER drawings at random, always the same, it tells in
+how many pixels the picture by `figgroup repaint` differs from that by fig2dev, beside the pixels that fig2dev paints.
+Both have 80 dots an inch, fig2dev's default, which are 15 units a pixel. Where no folder is given it is that of
+Debian's xfig-libs. Wants fig2dev and ghostscript."""
 
 import random
 import re
@@ -100,12 +100,13 @@ def main():
     number = int(sys.argv[2]) if len(sys.argv) > 2 else 44
     paths = sorted(folder.rglob('*.fig'))
     kept, left_out = map(sum, zip(*(made_plain(path.read_bytes())[1:] for path in paths)))
-    print(f'{len(paths)} drawings: {kept} of {kept + left_out} objects come in, {100 * kept // max(kept + left_out, 1)} %')
+    print(f'{len(paths)} drawings: {kept} of {kept + left_out} objects come in')
     near = 0
     for path in random.Random(SEED).sample(paths, number):
         part = difference(path)
         near += part is not None and part <= 0.3
-        print(f'{"no picture" if part is None else f"{100 * part:.0f} %":>10}  {path.relative_to(folder)}')
+        told = 'no picture' if part is None else f'{100 * part:.0f} %'
+        print(f'{told:>10}  {path.relative_to(folder)}')
     print(f'{near} of {number} differ in at most 30 % of the pixels that fig2dev paints')
 
 
