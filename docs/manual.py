@@ -68,8 +68,8 @@ def figgroup_page():
     lines.append('.SH OPTIONS')
     for option in options:
         lines += tagged(*option)
-    lines += ['.SH EXIT STATUS', escaped('0 on success; 1 where the input is refused, and where check or status --check '
-                                        'finds something; 2 where the words are wrong.')]
+    lines += ['.SH EXIT STATUS', escaped('0 on success; 1 where the input is refused, and where check or '
+                                         'status --check finds something; 2 where the words are wrong.')]
     return lines + ['.SH SEE ALSO', '.BR draw (1), xfig (1), fig2dev (1)']
 
 

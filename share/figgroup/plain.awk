@@ -393,9 +393,9 @@ function greatest(a, b) { return -least(-a, -b) }
 function distance(ax, ay, bx, by) { return sqrt((bx - ax) * (bx - ax) + (by - ay) * (by - ay)) }
 
 # Leaves out the points that change the path least until so many are left: in each round those that are nearer than a
-# bound to the line between their neighbours, but no two neighbours. The bound grows up to the last one.
+# bound to the line between their neighbours, but no two neighbours. The bound doubles up to the last one.
 function thin_path(most, last,    bound) {
-    for (bound = 1; points > most && bound <= last; bound *= 4) thin_once(most, bound)
+    for (bound = 1; points > most && bound <= last; bound *= 2) thin_once(most, bound)
 }
 
 # Points that equal the one before them are left out, too.
