@@ -8,7 +8,7 @@
 # pictures names, with its lines and its window, is painted anew and compared. What an import makes of
 # house.fig is compared with imported.jsonl; what plain.awk makes and tells of a drawing, by each awk, with NAME.plain.fig,
 # NAME.txt and NAME.groups, and what site 2 takes of it, beside the lines of the example named, with NAME.jsonl. Random
-# drawings are changed and taken. Last README, the guide to imports, the tutorial and by-git are typed, and the script of
+# drawings are changed and taken, others made plain. Last README, the guide to imports, the tutorial and by-git are typed, and the script of
 # draw is run.
 set -eu
 examples=$(cd "$(dirname "$0")" && pwd)
@@ -283,6 +283,7 @@ for awk in $awks; do
 done
 compare "program" "$examples/program/expected.txt" env PATH="$root/bin:$PATH" \
     python3 "$examples/program/program.py" "$examples/red-box/input.jsonl"
+compare "random drawings made plain" /dev/null env PATH="$root/bin:$PATH" python3 "$examples/random_plain.py" 1 100
 compare "random takes" /dev/null env PATH="$root/bin:$PATH" python3 "$examples/random_takes.py" 1 400 30
 
 # In place of each window stands what xfig saved of it, named by the site and how many operations it had.

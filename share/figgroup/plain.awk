@@ -434,8 +434,18 @@ function check_reach(px, py) {
 }
 
 function point_text(px, py) {
+    px = round(px); py = round(py)
     check_reach(px, py)
-    return " " round(px) " " round(py)
+    return " " px " " py
+}
+
+# A corner is told from the first one of its polygon, so that it may not be too far from it, either.
+function corner_text(px, py, is_first) {
+    if (is_first) {
+        corner_x = round(px); corner_y = round(py)
+    }
+    check_reach(round(px) - corner_x, round(py) - corner_y)
+    return point_text(px, py)
 }
 
 # Adds the path as a filled polygon or box.
@@ -445,10 +455,7 @@ function fill_path(is_box, colour,    i, text) {
         thin_path(most_corners, 1e30)
     }
     if (points < 3) return
-    for (i = 1; i <= points; i++) {
-        text = text point_text(point_x[i], point_y[i])
-        check_reach(point_x[i] - point_x[1], point_y[i] - point_y[1])
-    }
+    for (i = 1; i <= points; i++) text = text corner_text(point_x[i], point_y[i], i == 1)
     add_polygon(is_box ? 2 : 3, colour, points, text point_text(point_x[1], point_y[1]))
 }
 
@@ -532,8 +539,8 @@ function add_side(i, segment, way, half,    px, py, dx, dy) {
         px += way * overhang[i] * along_x[segment]; py += way * overhang[i] * along_y[segment]
         dx = -half * along_y[segment]; dy = half * along_x[segment]
     }
-    left_side = left_side point_text(px + dx, py + dy)
-    right_side = point_text(px - dx, py - dy) right_side
+    left_side = left_side corner_text(px + dx, py + dy, !sides)
+    right_side = corner_text(px - dx, py - dy) right_side
     if (!sides++) side_begin = left_side
 }
 
