@@ -56,7 +56,8 @@ class Drawing:
             points[2] = points[1]
         switches, arrows = self.arrows()
         ends = f'{self.random.randrange(3)} {self.random.randrange(3)} {self.random.choice([-1, 7, 100])}'
-        return f'2 {self.random.randrange(1, 5)} {self.style()} {ends} {switches} {count}{arrows}\n {" ".join(points)}\n'
+        fields = f'{self.random.randrange(1, 5)} {self.style()} {ends} {switches}'
+        return f'2 {fields} {count}{arrows}\n {" ".join(points)}\n'
 
     def spline(self):
         count = self.random.choice([1, 2, 3, 4, 9, 60])

@@ -8,8 +8,8 @@
 # pictures names, with its lines and its window, is painted anew and compared. What an import makes of
 # house.fig is compared with imported.jsonl; what plain.awk makes and tells of a drawing, by each awk, with NAME.plain.fig,
 # NAME.txt and NAME.groups, and what site 2 takes of it, beside the lines of the example named, with NAME.jsonl. Random
-# drawings are changed and taken, others made plain. Last README, the guide to imports, the tutorial and by-git are typed, and the script of
-# draw is run.
+# drawings are changed and taken, others made plain. Last README, the guide to imports, the tutorial and by-git are
+# typed, and the script of draw is run.
 set -eu
 examples=$(cd "$(dirname "$0")" && pwd)
 root=$(dirname "$examples")
