@@ -62,7 +62,6 @@ count == 0 && $1 == 4 {
     in_text = !/\\001$/
     kind = "text"; x = $12; y = $13
     leave_out("")
-    comments = own_comments
     next
 }
 
@@ -78,7 +77,7 @@ NF {
     if (count == wanted) {
         add_object()
         count = named = 0
-        comments = own_comments
+        comments = kept_comments
     }
 }
 
@@ -116,6 +115,8 @@ function refuse(at, words) {
 function leave_out(why) {
     told("plain: line " line ": " kind " at " x "," y ": left out" why)
     left++
+    figures = kept_figures
+    comments = kept_comments
 }
 
 function change(what) { if (index(changes, what) == 0) changes = changes (changes == "" ? "" : "; ") what }
@@ -150,7 +151,7 @@ function are_numbers(    i) {
     return field[7] ~ /^[0-9]+$/ && field[7] < 1000
 }
 
-function add_object() {
+function add_object(    points_at) {
     if (field[1] == 0) add_colour(field[2], tolower(substr(field[3], 2)))
     else if (field[1] == 6) {
         told("plain: line " line ": compound at " field[2] "," field[3] ": broken up")
@@ -161,47 +162,44 @@ function add_object() {
     } else {
         kind = kinds[field[1], field[2]]
         if (kind == "") refuse(line, "no object of FIG begins with " field[1] " " field[2])
-        changes = ""
-        begun = figures
-        beyond = full = 0
-        if (field[1] == 1) draw_ellipse(field[13], field[14], field[15], field[16], field[12])
-        else if (field[1] == 2) draw_polyline(16 + arrows(14))
-        else if (field[1] == 3) draw_spline(14 + arrows(12))
-        else draw_arc()
+        points_at = field[1] == 1 ? 12 : field[1] == 2 ? 16 + arrows(14) : field[1] == 3 ? 14 + arrows(12) : 16
+        x = field[points_at + 1]
+        y = field[points_at + 2]
+        if (kind == "picture") leave_out("")
+        else if (!are_numbers()) leave_out(": its numbers are none of FIG")
+        else if (figures == most_figures) leave_out(": a drawing has at most " most_figures " figures")
+        else draw_object(points_at)
     }
 }
 
-# Whether the object at this point can be drawn; if not it is left out.
-function is_drawn(at_x, at_y) {
-    x = at_x; y = at_y
-    if (kind == "picture") leave_out("")
-    else if (!are_numbers()) leave_out(": its numbers are none of FIG")
-    else if (figures == most_figures) leave_out(": a drawing has at most " most_figures " figures")
-    else return 1
-    return 0
-}
-
-# Keeps the figures that were made of the object, all of them or none.
-function keep_object(rank) {
+# Keeps the figures that are made of the object, all of them or none. Its points begin behind this field.
+function draw_object(at) {
+    changes = ""
+    beyond = full = 0
+    filled = figures
+    if (field[1] == 1) draw_ellipse(x, y, field[15], field[16], field[12])
+    else if (field[1] == 2) draw_polyline(at)
+    else if (field[1] == 3) draw_spline(at, field[14])
+    else draw_arc(field[15], field[16])
     if (figures > filled) {
-        change((filled > begun ? "its outline becomes " : "it becomes ") \
+        change((filled > kept_figures ? "its outline becomes " : "it becomes ") \
             (figures == filled + 1 ? "a polygon" : figures - filled " polygons"))
         if (field[3] > 0) change("its dashes are joined")
     }
     if (beyond) leave_out(": it reaches beyond " most_coordinate)
     else if (full) leave_out(": a drawing has at most " most_figures " figures")
-    else if (figures == begun) leave_out(is_filled() ? ": it has no area" : ": it has no fill")
-    else {
-        if (changes != "") told("plain: line " line ": " kind " at " x "," y ": " changes)
-        name[++kept] = kind "-" line
-        first_figure[kept] = begun + 1
-        last_figure[kept] = figures
-        first_comment[kept] = own_comments + 1
-        last_comment[kept] = own_comments = comments
-        append(level, rank, kept, kept)
-        return
-    }
-    figures = begun
+    else if (figures == kept_figures) leave_out(is_filled() ? ": it has no area" : ": it has no fill")
+    else keep_object(field[1] == 5 ? 2 : field[1] == 1 ? 3 : 4)
+}
+
+function keep_object(rank) {
+    if (changes != "") told("plain: line " line ": " kind " at " x "," y ": " changes)
+    name[++kept] = kind "-" line
+    first_figure[kept] = kept_figures + 1
+    last_figure[kept] = kept_figures = figures
+    first_comment[kept] = kept_comments + 1
+    last_comment[kept] = kept_comments = comments
+    append(level, rank, kept, kept)
 }
 
 # The order within one depth, as fig2dev paints it: what compounds hold, arcs, ellipses, then lines and splines. These
@@ -229,13 +227,9 @@ function end_compound(    rank, first, last) {
 # Kinds of objects. Each makes a path, points that are joined in order, and fills it, and draws a line along it.
 
 function draw_ellipse(cx, cy, a, b, turn,    half) {
-    if (!is_drawn(cx, cy)) return
     half = half_width(field[4])
     if (kind == "circle" && a == b) turn = 0
-    if (a < 1 || b < 1) {
-        leave_out(": it has no extent")
-        return
-    }
+    if (a < 1 || b < 1) return
     if (is_filled()) fill_ellipse(cx, cy, a, b, turn)
     filled = figures
     if (field[4] > 0 && least(a, b) > half) {
@@ -245,7 +239,6 @@ function draw_ellipse(cx, cy, a, b, turn,    half) {
         begin_ellipse(cx, cy, a + half, b + half, turn, arc_steps(greatest(a, b) + half, 2 * pi))
         fill_path(0, colour_written(field[5], 20))
     }
-    keep_object(3)
 }
 
 function fill_ellipse(cx, cy, a, b, turn,    colour, is_uneven) {
@@ -265,36 +258,30 @@ function fill_ellipse(cx, cy, a, b, turn,    colour, is_uneven) {
     }
 }
 
-# The points begin behind this field.
 function draw_polyline(at,    i, is_closed) {
-    if (!is_drawn(field[at + 1], field[at + 2])) return
     points = 0
     for (i = 1; i <= field[16]; i++) add_point(field[at + 2 * i - 1], field[at + 2 * i])
     is_closed = points > 1 && is_same(1, points)
     if (!is_closed && is_filled()) change("its ends are joined")
     if (field[2] == 4 && points > 3) round_corners(field[13] * unit)
     draw_path(is_closed || field[2] != 1, field[12], field[11], 14, 16)
-    keep_object(4)
 }
 
-function draw_arc(    from, sweep, radius) {
-    if (!is_drawn(field[17], field[18])) return
-    radius = distance(field[15], field[16], field[17], field[18])
-    from = atan2(field[18] - field[16], field[17] - field[15])
-    sweep = atan2(field[22] - field[16], field[21] - field[15]) - from
+# Its centre is at (cx, cy).
+function draw_arc(cx, cy,    from, sweep, radius) {
+    radius = distance(cx, cy, x, y)
+    from = atan2(y - cy, x - cx)
+    sweep = atan2(field[22] - cy, field[21] - cx) - from
     if (field[12] == 0 && sweep <= 0) sweep += 2 * pi  # clockwise, as y goes down
     if (field[12] != 0 && sweep >= 0) sweep -= 2 * pi
     points = 0
-    add_arc(field[15], field[16], radius, radius, 0, from, sweep, arc_steps(radius, sweep))
-    if (field[2] == 2) add_point(field[15], field[16])
+    add_arc(cx, cy, radius, radius, 0, from, sweep, arc_steps(radius, sweep))
+    if (field[2] == 2) add_point(cx, cy)
     draw_path(field[2] == 2, field[11], 0, 13, 22)
-    keep_object(2)
 }
 
-# The points begin behind this field, and behind them the shape factors.
-function draw_spline(at,    n, is_closed, i, before, behind, last, t) {
-    if (!is_drawn(field[at + 1], field[at + 2])) return
-    n = field[14]
+# The shape factors stand behind the n points.
+function draw_spline(at, n,    is_closed, i, before, behind, last, t) {
     is_closed = field[2] % 2
     points = 0
     for (i = 1; i <= n - !is_closed; i++) {
@@ -307,7 +294,6 @@ function draw_spline(at,    n, is_closed, i, before, behind, last, t) {
     }
     if (!is_closed) add_point(field[at + 2 * n - 1], field[at + 2 * n])
     draw_path(is_closed, field[11], 1, 12, 14)
-    keep_object(4)
 }
 
 # Fills the path, and draws a line along it, with the arrows of which the switches are this field and the next, and the
