@@ -1,6 +1,6 @@
 # Installs figgroup, without a proof: bin/ has the proved program.
 #
-#   make install [PREFIX=/usr/local] [DESTDIR=]   the program, draw, the page, and what draw uses
+#   make install [PREFIX=/usr/local] [DESTDIR=]   the program, draw, the page, what draw uses, manual pages, completions
 #   make deb [TO=.]                               a Debian package of these, figgroup_VERSION_amd64.deb
 
 PREFIX ?= /usr/local
@@ -19,6 +19,10 @@ install:
 	install -m 644 page/*.py $(at)/share/figgroup/page
 	install -m 644 page/web/* $(at)/share/figgroup/page/web
 	install -m 644 README.md bin/figgroup.sum docs/*.md $(at)/share/doc/figgroup
+	install -d $(at)/share/man/man1 $(at)/share/bash-completion/completions
+	install -m 644 share/man/* $(at)/share/man/man1
+	install -m 644 share/bash-completion/figgroup $(at)/share/bash-completion/completions
+	ln -sf figgroup $(at)/share/bash-completion/completions/draw
 
 define control
 Package: figgroup

@@ -6,9 +6,10 @@
 # named text or the status of the lines is expected, or their faults or those of commands are, these are compared; and where
 # there are changes, the operations that site 1 makes of them, and the status with these. Each picture that the file
 # pictures names, with its lines and its window, is painted anew and compared. What an import makes of
-# house.fig is compared with imported.jsonl; what plain.awk makes and tells of a drawing with NAME.plain.fig and NAME.txt, and what
-# site 2 takes of it, beside the lines of the example named, with NAME.jsonl. Random drawings are changed and taken. Last README,
-# the guide to imports, the tutorial and by-git are typed, and the script of draw is run.
+# house.fig is compared with imported.jsonl; what plain.awk makes and tells of a drawing, by each awk, with NAME.plain.fig,
+# NAME.txt and NAME.groups, and what site 2 takes of it, beside the lines of the example named, with NAME.jsonl. Random
+# drawings are changed and taken, others made plain. Last README, the guide to imports, the tutorial and by-git are
+# typed, and the script of draw is run.
 set -eu
 examples=$(cd "$(dirname "$0")" && pwd)
 root=$(dirname "$examples")
@@ -69,12 +70,35 @@ imported() {
     "$root/bin/figgroup" import --site 1 < "$1"
 }
 
+# By which awk: its name.
 plain() {
-    awk -f "$root/share/figgroup/plain.awk" < "$1" 2> /dev/null || :
+    "$awk" -f "$root/share/figgroup/plain.awk" < "$1" 2> /dev/null || :
 }
 
 plain_told() {
-    awk -f "$root/share/figgroup/plain.awk" < "$1" 2>&1 > /dev/null || :
+    "$awk" -f "$root/share/figgroup/plain.awk" < "$1" 2>&1 > /dev/null || :
+}
+
+plain_groups() {
+    "$awk" -v groups="$pixels" -f "$root/share/figgroup/plain.awk" < "$1" > /dev/null 2>&1 && cat "$pixels"
+}
+
+# What is told of a polygon with 20,000 corners far from each other, and what an import tells then.
+plain_far() {
+    {
+        head -n 9 "$examples/plain/lines.fig"
+        echo '2 3 0 0 0 4 50 -1 20 0.000 0 0 -1 0 0 20000'
+        "$awk" 'BEGIN { for (i = 0; i < 20000; i++) print i * 7919 % 500000, i * 10007 % 500000 }'
+    } | "$awk" -f "$root/share/figgroup/plain.awk" 2>&1 > "$pixels"
+    plain_faults "$pixels"
+}
+
+# What is told at last of a drawing of 1,001 boxes.
+plain_full() {
+    {
+        head -n 9 "$examples/plain/lines.fig"
+        yes '2 2 0 0 0 4 50 -1 20 0.000 0 0 -1 0 0 5 0 0 300 0 300 300 0 300 0 0' | head -n 1001
+    } | "$awk" -f "$root/share/figgroup/plain.awk" 2>&1 > /dev/null | tail -n 2
 }
 
 # What an import tells of a drawing made plain.
@@ -161,8 +185,13 @@ compare_pngs() {
 # The plain form of the drawing of this name.
 compare_plain() {
     drawing=$example/$1
-    compare "plain, $1" "$drawing.plain.fig" plain "$drawing.fig"
-    compare "plain, told of $1" "$drawing.txt" plain_told "$drawing.fig"
+    for awk in $awks; do
+        compare "plain by $awk, $1" "$drawing.plain.fig" plain "$drawing.fig"
+        compare "plain by $awk, told of $1" "$drawing.txt" plain_told "$drawing.fig"
+        if [ -e "$drawing.groups" ]; then
+            compare "plain by $awk, groups of $1" "$drawing.groups" plain_groups "$drawing.fig"
+        fi
+    done
     if [ -s "$drawing.plain.fig" ]; then
         compare "plain, $1 imported" /dev/null plain_faults "$drawing.plain.fig"
     fi
@@ -197,6 +226,11 @@ if ! is_current; then
     fi
     touch "$reader"
 fi
+
+awks=
+for awk in mawk gawk; do
+    ! command -v $awk > /dev/null || awks="$awks $awk"
+done
 
 for example in "$examples"/*/; do
     example=${example%/}
@@ -243,6 +277,13 @@ for example in "$examples"/*/; do
     done
 done
 
+for awk in $awks; do
+    compare "plain by $awk, 1,001 boxes" "$examples/plain/full.txt" plain_full
+    compare "plain by $awk, 20,000 corners" "$examples/plain/far.txt" plain_far
+done
+compare "program" "$examples/program/expected.txt" env PATH="$root/bin:$PATH" \
+    python3 "$examples/program/program.py" "$examples/red-box/input.jsonl"
+compare "random drawings made plain" /dev/null env PATH="$root/bin:$PATH" python3 "$examples/random_plain.py" 1 100
 compare "random takes" /dev/null env PATH="$root/bin:$PATH" python3 "$examples/random_takes.py" 1 400 30
 
 # In place of each window stands what xfig saved of it, named by the site and how many operations it had.

@@ -22,4 +22,8 @@ draw site 3
 FIG_EDITOR="cp '$root/examples/draw/saved/first-figure.fig'" draw 2>&1 | grep -q '^figgroup: made 3.1'
 # The page is found, and says what it lacks: designers, or python3-tornado.
 draw page 2>&1 | grep -q 'who draws\|python3-tornado'
+for page in figgroup draw; do
+    cmp "$folder/root/usr/share/man/man1/$page.1" "$root/share/man/$page.1"
+    cmp "$folder/root/usr/share/bash-completion/completions/$page" "$root/share/bash-completion/figgroup"
+done
 echo "package: draws"
