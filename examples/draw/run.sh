@@ -151,17 +151,27 @@ draw site 1 > /dev/null
 cp site-1.jsonl before
 mkdir stubs
 # Kills the word as it moves a file to this name, before or behind that; or fails to bring a file onto the disk.
-cat > stubs/mv << 'END'
-#!/bin/bash
-[ "$WHEN" != before ] || [ "${*: -1}" != "$NAME" ] || { kill -9 $PPID; exit 1; }
-command -p mv "$@"
-[ "$WHEN" != behind ] || [ "${*: -1}" != "$NAME" ] || kill -9 $PPID
+cat > stubs/draw.py << 'END'
+import os, runpy, sys
+move = os.rename
+def rename(part, path):
+    if os.environ.get('WHEN') == 'before' and path == os.environ['NAME']: os.kill(os.getpid(), 9)
+    move(part, path)
+    if os.environ.get('WHEN') == 'behind' and path == os.environ['NAME']: os.kill(os.getpid(), 9)
+def fsync(file):
+    raise OSError(28, 'No space left on device')
+os.rename = rename
+if 'FULL' in os.environ: os.fsync = fsync
+sys.argv[:2] = [sys.argv[1]]
+runpy.run_path(sys.argv[0], run_name='__main__')
 END
-printf '#!/bin/sh\ntest "$1" != -- -o "$2" = . -o -z "$FULL"\n' > stubs/sync
-chmod +x stubs/*
-killed() {
-    (PATH=$PWD/stubs:$PATH WHEN=$1 NAME=$2 "$root/bin/draw" "${@:3}" & wait $!) > /dev/null 2>&1 || echo "status $?"
+stopped() {
+    python3 -S stubs/draw.py "$root/bin/draw" "$@"
 }
+killed() {
+    (WHEN=$1 NAME=$2 stopped "${@:3}" & wait $!) > /dev/null 2>&1 || echo "status $?"
+}
+export -f stopped
 export -f killed
 say "killed before drawing.last move 10 10 1.1"
 say "draw list 1.1"
@@ -187,8 +197,8 @@ say "draw list | sed -n 1,2p"
 say "FIG_EDITOR=true draw 2>&1 | grep -v ^object"
 say "draw list | sed -n 1,2p"
 cp site-1.jsonl before
-say "PATH=\$PWD/stubs:\$PATH FULL=1 draw move 10 10 1.1"
-say "PATH=\$PWD/stubs:\$PATH FULL=1 draw picture 2>&1 | tail -n 1"
+say "FULL=1 stopped move 10 10 1.1"
+say "FULL=1 stopped picture 2>&1 | tail -n 1"
 say "cmp before site-1.jsonl"
 say "draw undo"
 rm -r stubs

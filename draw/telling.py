@@ -1,0 +1,56 @@
+"""What draw tells: one line for each thing, without control characters that others wrote."""
+import sys
+
+
+class Failure(Exception):
+    """A word is not done; the lines say why, and what to do."""
+
+    def __init__(self, *lines):
+        super().__init__(*lines)
+        self.lines = list(lines)
+
+
+def fail(words):
+    raise Failure(f'draw: {words}')
+
+
+def tell(words):
+    say(f'draw: {words}')
+
+
+def say(line):
+    print(printable(line), file=sys.stderr, flush=True)
+
+
+def write(line):
+    """Writes what a word was asked for."""
+    print(printable(line), flush=True)
+
+
+def printable(text):
+    return ''.join(sign if sign.isprintable() else '?' for sign in text)
+
+
+def lines_of(said):
+    """What another program told, line by line."""
+    return said.decode(errors='replace').expandtabs(4).split('\n')[:-1] if said.endswith(b'\n') else \
+        said.decode(errors='replace').expandtabs(4).splitlines()
+
+
+def quoted(name):
+    """A file's name as a shell reads it, without control characters."""
+    if not name.isprintable():
+        signs = os_bytes(name).replace(b'\\', b'\\\\').replace(b"'", b"\\'")
+        return "$'" + ''.join(escaped(sign) for sign in signs) + "'"
+    if all(sign.isalnum() or sign in '_-./:=@%+,' for sign in name):
+        return name
+    return "'" + name.replace("'", "'\\''") + "'"
+
+
+def os_bytes(name):
+    return name.encode(errors='surrogateescape')
+
+
+def escaped(sign):
+    known = {9: '\\t', 10: '\\n', 13: '\\r', 27: '\\E'}
+    return known.get(sign) or (chr(sign) if 32 <= sign < 127 else f'\\{sign:03o}')
