@@ -1,8 +1,7 @@
 """Calls of other programs. What they read and write are files in memory, so that none waits for the other."""
 import os
-import signal
 
-STAYS = (signal.SIGPIPE, signal.SIGXFSZ)  # what Python changes for itself
+IGNORED = (13, 25)  # SIGPIPE and SIGXFSZ, which Python ignores; the module `signal` takes as long to load as figgroup runs
 
 
 def memory():
@@ -15,7 +14,7 @@ def run(*words, read=b''):
         given.write(read)
         given.seek(0)
         streams = [(os.POSIX_SPAWN_DUP2, file.fileno(), number) for number, file in enumerate((given, wrote, said))]
-        process = os.posix_spawnp(words[0], words, os.environ, file_actions=streams, setsigdef=STAYS)
+        process = os.posix_spawnp(words[0], words, os.environ, file_actions=streams, setsigdef=IGNORED)
         status = wait(process)
         wrote.seek(0)
         said.seek(0)
@@ -24,7 +23,7 @@ def run(*words, read=b''):
 
 def run_here(*words):
     """The status of a program that has the terminal."""
-    return wait(os.posix_spawnp(words[0], words, os.environ, setsigdef=STAYS))
+    return wait(os.posix_spawnp(words[0], words, os.environ, setsigdef=IGNORED))
 
 
 def wait(process):

@@ -9,7 +9,7 @@ def word_picture(file='drawing.png'):
     if file.endswith('.png'):
         picture = over_lines('paint', '--fit', '--width', '800', '--height', '600')
         if is_there('pnmtopng'):
-            picture = made_by('pnmtopng', '-quiet', read=picture)
+            picture = made_by('pnmtopng', '-quiet', '-', read=picture)
         else:
             file = file.removesuffix('.png') + '.ppm'
     elif is_there('fig2dev'):
