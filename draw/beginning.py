@@ -3,7 +3,9 @@ import os
 
 import designers
 import folder
+import ids
 import names
+import naming
 import operations
 import own
 import settling
@@ -16,6 +18,8 @@ from telling import Failure, fail, lines_of, say, tell, write
 
 def word_site(number, name=None):
     """Notes the site of this copy, and the name of its designer."""
+    if name is not None and not designers.is_name(name):
+        fail(f'a name of a designer has at most {designers.MOST_SIGNS} letters, and no blank at its ends')
     known = folder.site()
     if known not in (None, int(number)):
         fail(f'this copy is of site {known}, as the file site says')
@@ -27,10 +31,8 @@ def word_site(number, name=None):
     open(file, 'ab').close()
     sharing.exclude('site', 'drawing.*')
     if name is not None:
-        if not designers.is_name(name):
-            fail(f'a name of a designer has at most {designers.MOST_SIGNS} letters')
         with own.alone():
-            names.replace_line('designers', f'{number} {name}')
+            naming.replace_line('designers', f'{number} {name}')
 
 
 def word_anew(place):
@@ -83,12 +85,12 @@ def give_names(groups, made):
     known = set(names.Names().objects)
     for line in groups:
         name, first, last = line.split()
-        ids = created[int(first) - 1:int(last)]
-        if len(ids) > 1 and names.is_name(name):
+        objects = created[int(first) - 1:int(last)]
+        if len(objects) > 1 and names.is_name(name):
             free = next(each for each in candidates(name) if each not in known)
             known.add(free)
-            names.replace_line('names', ' '.join([free, *names.ids.ranges(ids)]))
-            tell(f'{free} is {" ".join(names.ids.ranges(ids))}')
+            naming.replace_line('names', ' '.join([free, *ids.ranges(objects)]))
+            tell(f'{free} is {" ".join(ids.ranges(objects))}')
 
 
 def candidates(name):

@@ -3,7 +3,7 @@ import os
 
 import folder
 import ids
-from telling import fail, printable, tell, write
+from telling import fail, printable, tell
 
 MOST_BYTES = 100_000
 MOST_OBJECTS = 100_000  # of all lines together
@@ -114,32 +114,3 @@ def chosen(words, find):
             fail(f'none of {word} is there: draw list names what is shown')
         objects.update(dict.fromkeys(found))
     return list(objects)
-
-
-def word_name(name=None, *words):
-    """Lists all names, tells one, or gives objects a name in place of those that it had."""
-    import own  # here alone, as names are asked for by words that are to begin at once
-    import storing
-    names = known()
-    if not words:
-        told = names.objects if name is None else [name]
-        for each in told:
-            if each not in names.objects:
-                fail(f'there is no name {each}: draw name lists all')
-            write(' '.join([each, *ids.ranges(names.objects[each])]))
-        return
-    members = {id for word in words for id in ids_of(word)}
-    if len(members) > ids.LAST:
-        fail(f'a name has at most {ids.LAST} objects')
-    with own.alone():
-        replace_line('names', ' '.join([name, *ids.ranges(members)]))
-
-
-def replace_line(file, line):
-    """Puts a line into a file in place of all that begin with the same word."""
-    text = folder.content(file, MOST_BYTES) if os.path.isfile(file) else b''
-    kept = [old for old in text.splitlines() if old.split()[:1] != line.encode().split()[:1]]
-    new = b''.join(each + b'\n' for each in [*kept, line.encode()])
-    if max(len(text), len(new)) > MOST_BYTES:
-        fail(f'{file} would have more than {MOST_BYTES} bytes: take lines out')
-    storing.put(file, new)

@@ -142,7 +142,8 @@ def word_keep(which, *words):
             commands = keep_all(work, words[1:], lambda conflict: int(words[0]))
         else:
             commands = [keep(work.site, ids.read_id(which), map(ids.read_id, words))]
-        work.apply('edit', operations.script(commands))
+        if commands:
+            work.apply('edit', operations.script(commands))
 
 
 def keep(site, object, with_operations):
@@ -179,6 +180,6 @@ def keep_all(work, words, of):
             commands.append(keep(work.site, object, []))
         elif words or trouble and unsettled.entry(trouble):
             tell(f'{ids.name(object)} stays: it has no versions in conflict')
-    if not commands:
-        fail('nothing was settled: draw status tells what is open')
+    if not chosen:
+        tell('all is settled')
     return commands

@@ -7,7 +7,7 @@ import ids
 from telling import Failure, fail, say, tell
 
 MODULES = {
-    '': 'window', 'plain': 'window', 'site': 'beginning', 'bring': 'beginning', 'list': 'shapes', 'name': 'names',
+    '': 'window', 'plain': 'window', 'site': 'beginning', 'bring': 'beginning', 'list': 'shapes', 'name': 'naming',
     'move': 'shapes', 'copy': 'shapes', 'set': 'setting', 'delete': 'undoing', 'restore': 'undoing', 'keep': 'settling',
     'undo': 'undoing', 'redo': 'undoing', 'log': 'log', 'status': 'pulling', 'picture': 'pictures', 'pull': 'pulling',
     'push': 'pulling', 'watch': 'watching', 'page': 'serving', 'anew': 'beginning',
@@ -108,6 +108,7 @@ KINDS = {
     'OBJECT': is_object,
     'OPERATION': lambda word: ids.read_id(word) is not None,
     'NAME': is_name,
+    'DESIGNER': bool,
     'ATTRIBUTE': lambda word: word in ('place', 'points', 'size', 'colour', 'layer', 'shown'),
     'VALUE': bool,
     'FILE': lambda word: word.endswith(('.png', '.pdf', '.svg')),
