@@ -80,20 +80,14 @@ def word_bring(file):
 
 
 def give_names(groups, made):
-    """Names for figures that were one object: of their order in the drawing come the ids, in the order of import."""
+    """Names for figures that were one object. Import creates them in their order, so from this come their ids."""
     created = sorted(made)
     known = set(names.Names().objects)
     for line in groups:
         name, first, last = line.split()
         objects = created[int(first) - 1:int(last)]
         if len(objects) > 1 and names.is_name(name):
-            free = next(each for each in candidates(name) if each not in known)
+            free = next(each for each in [name, *(f'{name[:34]}-{n}' for n in range(2, 10001))] if each not in known)
             known.add(free)
             naming.replace_line('names', ' '.join([free, *ids.ranges(objects)]))
             tell(f'{free} is {" ".join(ids.ranges(objects))}')
-
-
-def candidates(name):
-    yield name
-    for number in range(2, 10000):
-        yield f'{name[:34]}-{number}'

@@ -11,55 +11,52 @@ import folder
 import ids
 from operations import Operation
 
+FILE = 'drawing.last'
 MOST_WORDS = 100
 MOST_BYTES = 10_000
 
 
 class History:
-    def __init__(self, first, last, lines, drawing, undo, redo):
-        self.first, self.last, self.lines, self.drawing = first, last, lines, drawing
-        self.undo, self.redo = undo, redo  # spans of words: the first and the last operation of each
+    """The first and the last operation, sums of the lines and of the drawing, and what can be undone and redone: of each
+    word the first and the last operation."""
+
+    def __init__(self, first, last, lines, drawing, spans):
+        self.first, self.last, self.lines, self.drawing, self.spans = first, last, lines, drawing, spans
 
     def span(self):
         return ids.span(self.first, self.last)
 
+    def is_made(self, text):
+        """Whether the own file ends with what is noted."""
+        count = self.last[1] - self.first[1] + 1
+        return sum_of(b''.join(text.splitlines(keepends=True)[-count:])) == self.lines
+
+    def text(self):
+        lines = [f'{ids.name(self.first)} {ids.name(self.last)} {self.lines} {self.drawing}']
+        for word, spans in self.spans.items():
+            lines.append(' '.join([word, *(f'{ids.name(first)}-{ids.name(last)}' for first, last in spans[-MOST_WORDS:])]))
+        return ''.join(f'{line}\n' for line in lines).encode()
+
 
 def read():
     """What is noted, or None. Where there is one line alone, as draw wrote before, it is what can be undone."""
-    if not os.path.isfile('drawing.last'):
+    if not os.path.isfile(FILE):
         return None
-    words = [line.split() for line in folder.content('drawing.last', MOST_BYTES).decode(errors='replace').split('\n')]
-    first, last = (ids.read_id(word) for word in (words[0] + ['', ''])[:2])
-    if not first or not last or first[0] != last[0]:
+    words = [line.split() for line in folder.content(FILE, MOST_BYTES).decode(errors='replace').split('\n')]
+    head = [*words[0], '', '', '', ''][:4]
+    span = ids.read_range('-'.join(head[:2]))
+    if not span:
         return None
-    spans = {line[0]: [span for span in map(ids.read_range, line[1:]) if span] for line in words[1:] if line}
-    lines, drawing = (words[0] + ['', ''])[2:4]
-    return History(first, last, lines, drawing, spans.get('undo', [(first, last)]), spans.get('redo', []))
+    found = {line[0]: [span for span in map(ids.read_range, line[1:]) if span] for line in words[1:] if line}
+    return History(*span, *head[2:], {'undo': found.get('undo', [span]), 'redo': found.get('redo', [])})
 
 
-def is_made(text):
-    """Whether the own file ends with what is noted."""
-    noted = read()
-    if noted is None:
-        return False
-    count = noted.last[1] - noted.first[1] + 1
-    new = b''.join(text.splitlines(keepends=True)[-count:])
-    return count > 0 and hashlib.sha256(new).hexdigest() == noted.lines
-
-
-def word(noted, new, drawing):
-    """The note of a word that was typed; behind it nothing can be redone."""
-    span = span_of(new)
-    return note(span, new, drawing, [*(noted.undo if noted else []), span], [])
-
-
-def note(span, new, drawing, undo, redo):
-    def spans(them):
-        return ''.join(f' {ids.name(first)}-{ids.name(last)}' for first, last in them[-MOST_WORDS:])
-    head = f'{ids.name(span[0])} {ids.name(span[1])} {hashlib.sha256(new).hexdigest()} {drawing}'
-    return f'{head}\nundo{spans(undo)}\nredo{spans(redo)}\n'.encode()
-
-
-def span_of(new):
+def of(new, drawing, spans):
+    """The note of new lines, made of the drawing of this sum, if of one."""
     lines = new.splitlines()
-    return Operation(lines[0]).id, Operation(lines[-1]).id
+    first, last = Operation(lines[0]).id, Operation(lines[-1]).id
+    return History(first, last, sum_of(new), drawing, spans((first, last)))
+
+
+def sum_of(text):
+    return hashlib.sha256(text).hexdigest()

@@ -19,14 +19,17 @@ def with_entries(line, entries):
 
 
 def changes(new, lines):
-    """For each object that was there its attributes, as `car place`, and together those that changed alike."""
+    """For each object that was there what of it new lines change."""
     made = operations.read(new).values()
     created = {operation.id for operation in made if operation.attribute is None}
-    changed = {}
-    for operation in made:
-        if operation.object not in created:
-            changed.setdefault(operation.object, []).append(operation)
-    alike = {}
+    return changes_of([operation for operation in made if operation.object not in created], lines)
+
+
+def changes_of(operations_made, lines):
+    """The attributes of each object, as `car place`, and together of those that changed alike."""
+    changed, alike = {}, {}
+    for operation in operations_made:
+        changed.setdefault(operation.object, []).append(operation)
     for object in sorted(changed):
         alike.setdefault(words_of(changed[object]), []).append(object)
     known = names.Names()

@@ -19,6 +19,9 @@ def word_name(name=None, *words):
                 fail(f'there is no name {each}: draw name lists all')
             write(' '.join([each, *ids.ranges(known.objects[each])]))
         return
+    for word in words:
+        if names.is_name(word):
+            fail(f'{word} is a name, and a name has ids and ranges alone')
     members = {id for word in words for id in names.ids_of(word)}
     if len(members) > ids.LAST:
         fail(f'a name has at most {ids.LAST} objects')

@@ -1,6 +1,5 @@
 """The own file of this copy, to which one word at a time adds operations, all or none."""
 import fcntl
-import hashlib
 import os
 import signal
 import time
@@ -109,13 +108,14 @@ class Work:
 
     def tell_stopped(self):
         """Tells what a word made that was killed, and takes away a drawing that it had taken."""
-        last, is_made = history.read(), history.is_made(self.own.text())
+        last = history.read()
+        is_made = last is not None and last.is_made(self.own.text())
         if os.path.exists('drawing.word'):
             before = folder.content('drawing.word', 100).decode(errors='replace').split()[1:]
             known = before and before != [ids.name(self.own.last())]
             tell('the word before was stopped, and made ' + (last.span() if known and is_made else 'nothing'))
             os.unlink('drawing.word')
-        if os.path.exists('drawing.fig') and is_made and last.drawing == sum_of(folder.content('drawing.fig')):
+        if os.path.exists('drawing.fig') and is_made and last.drawing == drawing_sum():
             tell(f'drawing.fig was taken, as {last.span()}')
             forget_drawing()
 
@@ -127,20 +127,26 @@ class Work:
             raise Failure(*explaining.why(said, lines, text, self.site))
         return new, lines_of(said)
 
-    def add(self, new, said, step=history.word):
-        """Notes which operations come, adds them to the own file, and tells it."""
+    def add(self, new, said, spans=None):
+        """Notes which operations come, adds them to the own file, and tells it. `spans` tells what can then be undone
+        and redone."""
         if new:
-            drawing = sum_of(folder.content('drawing.fig')) if os.path.exists('drawing.fig') else ''
             text = self.own.text()
-            noted = step(history.read() if history.is_made(text) else None, new, drawing)
+            noted = history.of(new, drawing_sum(), spans or self.spans_of_word)
             for number in SIGNALS:  # from here on only a kill comes between
                 signal.signal(number, signal.SIG_IGN)
             storing.prepare(self.own.name, text + new)
-            storing.prepare('drawing.last', noted)
-            storing.place('drawing.last')
+            storing.prepare(history.FILE, noted.text())
+            storing.place(history.FILE)
             storing.place(self.own.name)
         for line in made.told(said, new, self.lines):
             say(line)
+
+    def spans_of_word(self, span):
+        """Behind a word nothing can be redone, and the words before it be undone if nothing came between."""
+        last = history.read()
+        before = last.spans['undo'] if last and last.is_made(self.own.text()) else []
+        return {'undo': [*before, span], 'redo': []}
 
     def apply(self, verb, text):
         """Makes the operations, all or none, and adds them."""
@@ -152,8 +158,9 @@ def end(number, _):
     raise SystemExit(128 + number)
 
 
-def sum_of(text):
-    return hashlib.sha256(text).hexdigest()
+def drawing_sum():
+    """The sum of the drawing that is open or left, if there is one."""
+    return history.sum_of(folder.content('drawing.fig')) if os.path.exists('drawing.fig') else ''
 
 
 def forget_drawing():

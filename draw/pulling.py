@@ -113,7 +113,7 @@ def pull():
     came = []
     for entry in asked('diff', '--numstat', '-z', before, 'HEAD', '--', *site_files(), *SHARED).split(b'\0')[:-1]:
         new, _, name = entry.split(b'\t', 2)
-        came.append(f'draw: {new.decode()} new in {os.fsdecode(name)}')
+        came.append(f'draw: {new.decode().replace("-", "something")} new in {os.fsdecode(name)}')
     if sharing.answer('rev-parse', 'HEAD') == before:
         came.append('draw: nothing new')
     return came + sharing.deleted(), settling.Unsettled(lines(), file.site).told()

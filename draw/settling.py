@@ -77,7 +77,7 @@ class Unsettled:
             text = f'has more than {MOST_SHOWN} versions shown'
             return Entry(text, text, ('draw delete {}',))
         if any(self.all[id].aim for id in trouble.hidings):
-            text = f'each hid a version of it: {self.people(trouble.hidings)}'
+            text = f'hidden by {self.people(trouble.hidings)}, each another version'
             return Entry(text, text, ('draw restore {}', 'draw delete {}'))
         return None
 
@@ -89,8 +89,8 @@ class Unsettled:
                    and any(not change.knows(operation) and not operation.knows(change) for change in changes)]
         what = ', '.join(sorted({change.attribute for change in changes}))
         if trouble.shown:
-            text = f'{self.people(trouble.changes)} changed a version that {self.people(hidings)} hid: {what}'
-            return Entry(text, text, ('draw keep --mine {}',) if self.site else ('draw list {}',))
+            text = f'{what}: {self.people(trouble.changes)} changed a version that {self.people(hidings)} hid'
+            return Entry(text, text, ('draw keep --mine {} leaves it hidden',))
         text = f'deleted by {self.people(hidings)}, and changed by {self.people(trouble.changes)}: {what}'
         return Entry(text, text, ('draw restore {}', 'draw delete {}'))
 
@@ -118,7 +118,7 @@ class Unsettled:
         for group in entries.values():
             objects, entry = [object for object, _ in group], group[0][1]
             words = ' '.join(known.words(objects, there))
-            label = ' '.join(known.labels(objects, there))
+            label = ', '.join(known.labels(objects, there))
             told.append(f'{label} {entry.one if len(objects) == 1 else entry.several}')
             told.append('    ' + ', or '.join(way.format(words) for way in entry.ways))
         if self.more:

@@ -1,12 +1,14 @@
 """What was hidden comes back, and words are undone and redone."""
-import operations
 import history
 import ids
+import made
 import names
+import operations
 import own
+import storing
 from folder import over_lines
 from operations import change, is_within, script
-from telling import fail, lines_of, tell
+from telling import fail, tell
 
 
 def word_delete(*words):
@@ -79,25 +81,23 @@ class Step:
         return shown + self.make('take', before, shown)
 
     def make(self, verb, text, behind=b''):
-        made, said = self.work.make(verb, text, self.lines + behind)
+        new, said = self.work.make(verb, text, self.lines + behind)
         self.counts = ''.join(line.partition(': made ')[2].partition(':')[2] for line in said)
-        return made
+        return new
 
     def commands(self):
         """The same as commands that come last. What others changed since, and this copy knew of, stays."""
         newest = self.work.own.last()
         known = self.own_up_to(self.all[newest].past, newest[1])
-        since = {(each.object, each.attribute): each for each in self.all.values()
+        since = {(each.object, each.attribute) for each in self.all.values()
                  if each.id[0] != self.site and is_within(each.id, known) and not is_within(each.id, self.past)}
-        found = []
-        for operation in operations.read(self.back()).values():
-            other = since.get((operation.object, operation.attribute))
-            if other and operation.attribute:
-                tell(f'{ids.name(operation.object)} {operation.attribute} stays as {ids.name(other.id)} changed it since')
-                self.counts = ''
-            else:
-                found.append(self.command(operation.fields, newest))
-        return script(found), operations.within(self.work.lines, known)
+        back = operations.read(self.back()).values()
+        left = [each for each in back if each.attribute and (each.object, each.attribute) in since]
+        if left:
+            self.counts = ''
+            tell(f'{"; ".join(made.changes_of(left, self.work.lines))}: that stays, as others changed it since')
+        commands = script(self.command(each.fields, newest) for each in back if each not in left)
+        return commands, operations.within(self.work.lines, known)
 
     def command(self, fields, newest):
         def renamed(id):
@@ -125,22 +125,16 @@ def go(here, there, none_left):
         noted = history.read()
         if noted is None:
             fail('no word changed anything in this copy yet')
-        if not history.is_made(work.own.text()):
+        if not noted.is_made(work.own.text()):
             fail('the last change was not made by a word: draw log tells it')
-        spans = {'undo': noted.undo, 'redo': noted.redo}
-        if not spans[here]:
+        if not noted.spans[here]:
             fail(none_left)
-        while spans[here]:
-            step = Step(work, *spans[here].pop())
-            commands, lines = step.commands()
-            if commands:
-                break
-        else:
-            fail('nothing that is seen was changed, so nothing is undone')
+        span = noted.spans[here].pop()
+        step = Step(work, *span)
+        commands, lines = step.commands()
+        if not commands:
+            storing.put('drawing.last', noted.text())
+            fail(f'nothing that is seen came of {ids.span(*span)}: draw {here} again goes to the word before')
         new, said = work.make('edit', commands, lines)
         said = [f'{line}:{step.counts}' if step.counts else line for line in said]
-
-        def noted_step(_, new, drawing):
-            spans[there].append(history.span_of(new))
-            return history.note(history.span_of(new), new, drawing, spans['undo'], spans['redo'])
-        work.add(new, said, noted_step)
+        work.add(new, said, lambda span: noted.spans[there].append(span) or noted.spans)
