@@ -8,7 +8,7 @@
 # pictures names, with its lines and its window, is painted anew and compared. What an import makes of
 # house.fig is compared with imported.jsonl; what plain.awk makes and tells of a drawing with NAME.plain.fig and NAME.txt, and what
 # site 2 takes of it, beside the lines of the example named, with NAME.jsonl. Random drawings are changed and taken. Last README,
-# the guide to imports, the tutorial and by-git are typed, and the script of draw is run.
+# the guide to imports, the tutorial and by-git are typed, and the scripts of draw and week are run.
 set -eu
 examples=$(cd "$(dirname "$0")" && pwd)
 root=$(dirname "$examples")
@@ -261,13 +261,14 @@ else
     echo "by-git: skipped, as there is no git"
 fi
 missing=
-for tool in git jq pngtopnm flock; do
+for tool in git pngtopnm flock fig2dev; do
     command -v "$tool" > /dev/null || missing="$missing $tool"
 done
 if [ -z "$missing" ]; then
     compare "draw" "$examples/draw/expected.txt" env PATH="$root/bin:$PATH" "$examples/draw/run.sh"
+    compare "week" "$examples/week/expected.txt" env PATH="$root/bin:$PATH" "$examples/week/run.sh"
 else
-    echo "draw: skipped, as there is no$missing"
+    echo "draw, week: skipped, as there is no$missing"
 fi
 echo "$passed passed, $failed failed"
 [ "$failed" = 0 ]

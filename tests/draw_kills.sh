@@ -1,7 +1,7 @@
 #!/usr/bin/env bash
 # Kills words of draw by -9 at random moments, so many times, and asks after each: no line is lost, none is half, none
-# is double, no id is there twice; the next word goes, and tells what the killed one made. Every other time the shell
-# alone is killed, and what it had begun goes on. Where root can mount a small disk, words find more and more room.
+# is double, no id is there twice; the next word goes, and tells what the killed one made. Every other time draw
+# alone is killed, and what it had begun, as a window, goes on. Where root can mount a small disk, words find more and more room.
 #
 #     tests/draw_kills.sh [N]
 set -euo pipefail
