@@ -1,7 +1,9 @@
 """Calls of other programs. What they read and write are files in memory, so that none waits for the other."""
 import os
 
-IGNORED = (13, 25)  # SIGPIPE and SIGXFSZ, which Python ignores; the module `signal` takes as long to load as figgroup runs
+from telling import fail
+
+IGNORED = (13, 25)  # by Python: SIGPIPE and SIGXFSZ; the module `signal` takes as long to load as figgroup runs
 
 
 def memory():
@@ -14,8 +16,7 @@ def run(*words, read=b''):
         given.write(read)
         given.seek(0)
         streams = [(os.POSIX_SPAWN_DUP2, file.fileno(), number) for number, file in enumerate((given, wrote, said))]
-        process = os.posix_spawnp(words[0], words, os.environ, file_actions=streams, setsigdef=IGNORED)
-        status = wait(process)
+        status = finish(words, file_actions=streams)
         wrote.seek(0)
         said.seek(0)
         return status, wrote.read(), said.read()
@@ -23,10 +24,14 @@ def run(*words, read=b''):
 
 def run_here(*words):
     """The status of a program that has the terminal."""
-    return wait(os.posix_spawnp(words[0], words, os.environ, setsigdef=IGNORED))
+    return finish(words)
 
 
-def wait(process):
+def finish(words, **streams):
+    try:
+        process = os.posix_spawnp(words[0], words, os.environ, setsigdef=IGNORED, **streams)
+    except FileNotFoundError:
+        fail(f'there is no {words[0]} here: apt-get install it')
     return os.waitstatus_to_exitcode(os.waitpid(process, 0)[1])
 
 

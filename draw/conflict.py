@@ -1,5 +1,4 @@
 """The shown versions of one object: whose each is, and what it looks like."""
-import operations
 
 MOST_SIGNS = 60  # of a value that is told
 

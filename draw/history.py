@@ -17,8 +17,8 @@ MOST_BYTES = 10_000
 
 
 class History:
-    """The first and the last operation, sums of the lines and of the drawing, and what can be undone and redone: of each
-    word the first and the last operation."""
+    """The first and the last operation of the last word, sums of its lines and of the drawing that it took, and the
+    first and the last operation of each word that can be undone or redone."""
 
     def __init__(self, first, last, lines, drawing, spans):
         self.first, self.last, self.lines, self.drawing, self.spans = first, last, lines, drawing, spans
@@ -34,7 +34,8 @@ class History:
     def text(self):
         lines = [f'{ids.name(self.first)} {ids.name(self.last)} {self.lines} {self.drawing}']
         for word, spans in self.spans.items():
-            lines.append(' '.join([word, *(f'{ids.name(first)}-{ids.name(last)}' for first, last in spans[-MOST_WORDS:])]))
+            words = [f'{ids.name(first)}-{ids.name(last)}' for first, last in spans[-MOST_WORDS:]]
+            lines.append(' '.join([word, *words]))
         return ''.join(f'{line}\n' for line in lines).encode()
 
 

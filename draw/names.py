@@ -8,10 +8,12 @@ from telling import fail, printable, tell
 MOST_BYTES = 100_000
 MOST_OBJECTS = 100_000  # of all lines together
 MOST_TOLD = 10
+MOST_SIGNS = 40
 
 
 def is_name(word):
-    return word.isascii() and word[:1].isalpha() and len(word) <= 40 and word.replace('-', '').replace('_', '').isalnum()
+    signs = word.replace('-', '').replace('_', '')
+    return word.isascii() and word[:1].isalpha() and len(word) <= MOST_SIGNS and signs.isalnum()
 
 
 def ids_of(word):
@@ -34,7 +36,7 @@ class Names:
     def add(self, words):
         """What is wrong with the words of a line, or None."""
         if not is_name(words[0]):
-            return 'a name begins with a letter, and has letters, digits, - and _, at most 40'
+            return f'a name begins with a letter, and has letters, digits, - and _, at most {MOST_SIGNS}'
         found = set()
         for word in words[1:]:
             members = ids_of(word)
@@ -98,7 +100,7 @@ def known():
 
 
 def chosen(words, find):
-    """The objects that words mean: ids as they are, and of ranges and names those that are there, which `find` finds."""
+    """The objects that words mean: ids as they are, of ranges and names those that are there, which `find` finds."""
     names, objects = None, {}
     there = set() if all(map(ids.read_id, words)) else find()
     for word in words:

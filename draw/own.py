@@ -17,6 +17,7 @@ from sitefile import SiteFile, part_of
 from telling import Failure, fail, lines_of, say, tell
 
 WAIT = 60  # seconds, for a file that another program has locked
+WATCH = 0.3  # seconds, in which a watch looks whether a word is at work
 SIGNALS = (signal.SIGINT, signal.SIGTERM, signal.SIGHUP)
 
 
@@ -68,12 +69,15 @@ class OwnFile:
 
 def alone():
     """The lock of one word at a time: a drawing that is open would undo what another word makes."""
-    lock = open('site')
-    try:
-        fcntl.flock(lock, fcntl.LOCK_EX | fcntl.LOCK_NB)
-    except BlockingIOError:
-        fail('another draw is at work here: close its window first')
-    return lock
+    lock, end = open('site'), time.monotonic() + WATCH
+    while True:
+        try:
+            fcntl.flock(lock, fcntl.LOCK_EX | fcntl.LOCK_NB)
+            return lock
+        except BlockingIOError:
+            if time.monotonic() > end:
+                fail('another draw is at work here: close its window first')
+            time.sleep(0.02)
 
 
 class Work:

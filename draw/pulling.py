@@ -1,12 +1,13 @@
 """What others pushed comes, and what this copy made goes, by git."""
 import os
 
+import ids
 import own
 import settling
 import sharing
 from calls import git
 from folder import MOST_BYTES, SHARED, is_site_file, lines, site, site_files
-from telling import Failure, fail, lines_of, quoted, tell, write
+from telling import Failure, fail, lines_of, quoted, write
 
 OTHERS = ('was committed by others, and would overwrite yours, so nothing was pulled: '
           'they type git rm --cached on it, commit and push')
@@ -24,7 +25,7 @@ def commit_own():
     names = [file.name, *filter(os.path.exists, SHARED)]
     asked('add', '--', *names)
     if git('diff', '--cached', '--quiet', '--', *names)[0]:
-        asked('commit', '-q', '-m', f'site {file.site}: up to {own.ids.name(file.last())}', '--', *names)
+        asked('commit', '-q', '-m', f'site {file.site}: up to {ids.name(file.last())}', '--', *names)
     file.unlock()
     stays_apart('HEAD', 'is committed here, and would overwrite that of others: git rm --cached it, and commit that')
     return file
@@ -46,7 +47,7 @@ def stays_apart(tree, refusal):
         if (is_site_file(name) or name in SHARED) and not mode.startswith('100'):
             fail(f'{quoted(name)} was committed as a link or a folder: who did it types git rm')
         if is_site_file(name) and size > MOST_BYTES:
-            fail(f'{quoted(name)} has more than {MOST_BYTES} bytes, which figgroup does not read, so nothing was pulled')
+            fail(f'{quoted(name)} has more than {MOST_BYTES} bytes, which figgroup does not read')
 
 
 def keeps_lines(before, behind):
@@ -150,12 +151,12 @@ def word_status():
 
 def tell_unpushed(number):
     """What git knows of the files of the drawing: which are to be pushed, and which others' files were changed here."""
-    branch, *changed = asked('status', '--short', '--branch', '--', *site_files(), *SHARED).decode(
-        errors='replace').splitlines()
+    branch, *changed = lines_of(asked('status', '--short', '--branch', '--', *site_files(), *SHARED))
     own_file = f'site-{number}.jsonl'
-    mine = [line for line in changed if line[3:].rpartition('/')[2] in (own_file, *SHARED)]
-    if mine or 'ahead ' in branch or '...' not in branch:
-        write(f'draw: {own_file} is to be pushed: draw push' if number else 'draw: there is something to be pushed')
+    mine = [line for line in changed if line.rpartition('/')[2].split(' ')[-1] in (own_file, *SHARED)]
+    is_behind = '...' not in branch or 'ahead ' in branch
+    if number and (mine or is_behind) and sharing.answer('remote'):
+        write(f'draw: {own_file} is to be pushed: draw push')
     if 'behind ' in branch:
         write('draw: others pushed: draw pull')
     for line in changed:

@@ -3,6 +3,7 @@ import designers
 import ids
 import names
 import operations
+import own
 from conflict import Conflict
 from folder import over_lines
 from telling import fail, lines_of, tell, write
@@ -70,7 +71,8 @@ class Unsettled:
         """What is told of an object, or None where all agree."""
         if trouble.attributes:
             conflict = self.conflict(trouble)
-            return Entry(conflict.text(self.names, apart=False), conflict.text(self.names, apart=True), self.ways(conflict))
+            one, several = (conflict.text(self.names, apart) for apart in (False, True))
+            return Entry(one, several, self.ways(conflict))
         if trouble.changes:
             return self.of_hidden(trouble)
         if trouble.shown > MOST_SHOWN:
@@ -132,14 +134,13 @@ def tell_unsettled(lines, site):
 
 
 def word_keep(which, *words):
-    import own  # here alone, as what is unsettled is told where nothing is made, too
     with own.Work() as work:
         if which == '--mine':
-            commands = keep_all(work, words, lambda conflict: work.site)
+            commands = keep_all(work, words, lambda *_: work.site)
         elif which == '--theirs':
-            commands = keep_all(work, words, lambda conflict: other(conflict, work.site))
+            commands = keep_all(work, words, other)
         elif which == '--site':
-            commands = keep_all(work, words[1:], lambda conflict: int(words[0]))
+            commands = keep_all(work, words[1:], lambda *_: int(words[0]))
         else:
             commands = [keep(work.site, ids.read_id(which), map(ids.read_id, words))]
         if commands:
@@ -150,11 +151,11 @@ def keep(site, object, with_operations):
     return {'site': site, 'do': 'keep', 'object': object, 'with': sorted(set(with_operations))}
 
 
-def other(conflict, mine):
+def other(unsettled, conflict):
     """The one site in conflict beside this one."""
-    sites = [site for site in conflict.sites() if site != mine]
+    sites = [site for site in conflict.sites() if site != unsettled.site]
     if len(sites) > 1:
-        who = ' and '.join(map(designers.Designers().name, sites))
+        who = ' and '.join(map(unsettled.names.name, sites))
         fail(f'{ids.name(conflict.object)} has versions of {who}: draw keep --site N says whose stays')
     return sites[0] if sites else None
 
@@ -164,22 +165,27 @@ def keep_all(work, words, of):
     unsettled = Unsettled(work.lines, work.site)
     troubles = {trouble.object: trouble for trouble in unsettled.troubles}
     chosen = names.chosen(words, lambda: operations.objects(work.lines)) if words else list(troubles)
+    one_by_one = set(map(ids.read_id, words))
     commands = []
     for object in chosen:
         trouble = troubles.get(object)
         if trouble and trouble.attributes:
-            conflict = unsettled.conflict(trouble)
-            site = of(conflict)
-            kept = conflict.kept(site)
-            if kept:
-                commands.append(keep(work.site, object, kept))
-            else:
-                whose = unsettled.names.name(site) if site else 'anybody else'
-                tell(f'{ids.name(object)} stays: no version in conflict is that of {whose}')
+            commands += keep_of(unsettled, trouble, of)
         elif trouble and trouble.shown and trouble.changes:
             commands.append(keep(work.site, object, []))
-        elif words or trouble and unsettled.entry(trouble):
+        elif object in one_by_one or trouble and unsettled.entry(trouble):
             tell(f'{ids.name(object)} stays: it has no versions in conflict')
-    if not chosen:
-        tell('all is settled')
+    if not commands:
+        tell('nothing was settled' if troubles else 'all is settled')
     return commands
+
+
+def keep_of(unsettled, trouble, of):
+    conflict = unsettled.conflict(trouble)
+    site = of(unsettled, conflict)
+    kept = conflict.kept(site)
+    if kept:
+        return [keep(unsettled.site, trouble.object, kept)]
+    whose = unsettled.names.name(site) if site else 'anybody else'
+    tell(f'{ids.name(trouble.object)} stays: no version in conflict is that of {whose}')
+    return []

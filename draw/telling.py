@@ -33,22 +33,17 @@ def printable(text):
 
 def lines_of(said):
     """What another program told, line by line."""
-    return said.decode(errors='replace').expandtabs(4).split('\n')[:-1] if said.endswith(b'\n') else \
-        said.decode(errors='replace').expandtabs(4).splitlines()
+    return said.decode(errors='replace').expandtabs(4).removesuffix('\n').split('\n') if said else []
 
 
 def quoted(name):
     """A file's name as a shell reads it, without control characters."""
     if not name.isprintable():
-        signs = os_bytes(name).replace(b'\\', b'\\\\').replace(b"'", b"\\'")
-        return "$'" + ''.join(escaped(sign) for sign in signs) + "'"
+        signs = name.encode(errors='surrogateescape').replace(b'\\', b'\\\\').replace(b"'", b"\\'")
+        return "$'" + ''.join(map(escaped, signs)) + "'"
     if all(sign.isalnum() or sign in '_-./:=@%+,' for sign in name):
         return name
     return "'" + name.replace("'", "'\\''") + "'"
-
-
-def os_bytes(name):
-    return name.encode(errors='surrogateescape')
 
 
 def escaped(sign):

@@ -37,7 +37,8 @@ def word_restore(*words):
 def restore(work, object, all):
     """The commands that show what those saw who hid the object last."""
     of_shown = [each for each in all.values() if each.object == object and each.attribute == 'shown']
-    last = [each for each in of_shown if each.value('shown') is False and not any(other.knows(each) for other in of_shown)]
+    last = [each for each in of_shown
+            if each.value('shown') is False and not any(other.knows(each) for other in of_shown)]
     if not last:
         return [change(work.site, object, 'shown', True)]
     return show_again(work.site, work.lines, object, [each.past for each in last])
@@ -47,7 +48,8 @@ def show_again(site, lines, object, pasts):
     """The commands that show of an object what was shown where so many operations were known."""
     before = [version.operations for past in pasts for version in then(lines, object, past) if version.shown]
     now = operations.versions(lines, object)
-    again = [version.operations for version in now if not version.shown and any(old <= version.operations for old in before)]
+    hidden = [version.operations for version in now if not version.shown]
+    again = [operations_now for operations_now in hidden if any(old <= operations_now for old in before)]
     aims = [set()] if len(again) == len(now) else again
     return [change(site, object, 'shown', True, aim=sorted(aim)) for aim in aims]
 

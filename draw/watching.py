@@ -1,11 +1,10 @@
 """Pulls again and again, and tells what is new once."""
-import os
 import time
 
 import own
 import pulling
 from folder import site
-from telling import Failure, fail, say, write
+from telling import Failure, fail, write
 
 LEAST, MOST = 10, 3600  # seconds between two pulls
 

@@ -2,13 +2,14 @@
 import os
 import re
 
+import folder
 import own
 import settling
 import storing
-from calls import run, run_here
-from folder import over_lines
+from calls import run_here
+from ids import LAST
 from plain import make_plain
-from telling import Failure, fail, lines_of, tell
+from telling import Failure, fail, say, tell
 
 XFIG = 'xfig -startfillstyle 20 -startlinewidth 0'
 COMPOUND = re.compile(r'figgroup: drawing line \d+: Object: (compound at \S+): break it up')
@@ -17,20 +18,23 @@ COMPOUND = re.compile(r'figgroup: drawing line \d+: Object: (compound at \S+): b
 def word_window():
     with own.Work(with_drawing=True) as work:
         settling.tell_unsettled(work.lines, work.site)
-        ask(work)
+        try:
+            ask(work)
+        except Failure as failure:
+            raise stays(failure) if os.path.exists('drawing.fig') else failure
         written = open_drawing(work)
         work.own.unlock()  # while the window is open the page may write to the own file
         edit(work, written)
         work.own.lock()
-        work.lines = own.folder.lines()
-        take(work, own.folder.content('drawing.fig'))
+        work.lines = folder.lines()
+        take(work, folder.content('drawing.fig'))
 
 
 def ask(work):
     """Whether operations could be made here, told before a window opens and not behind what is drawn there."""
     work.make('edit', b'')
-    if work.own.last()[1] == own.ids.LAST:
-        fail(f'site {work.site} has made its {own.ids.LAST} operations: use another number')
+    if work.own.last()[1] == LAST:
+        fail(f'site {work.site} has made its {LAST} operations: use another number')
 
 
 def open_drawing(work):
@@ -38,7 +42,7 @@ def open_drawing(work):
     if os.path.exists('drawing.fig'):
         tell('drawing.fig was not taken yet, and opens again')
         return None
-    written = over_lines('fig', '--named', read=work.lines)
+    written = folder.over_lines('fig', '--named', read=work.lines)
     storing.put('drawing.fig', written)
     return written
 
@@ -50,7 +54,7 @@ def edit(work, written):
     os.set_inheritable(work.lock.fileno(), False)
     if status == 0:
         return
-    if os.path.exists('drawing.fig') and own.folder.content('drawing.fig') == written:
+    if os.path.exists('drawing.fig') and folder.content('drawing.fig') == written:
         os.unlink('drawing.fig')
     if status == 127:
         fail('there is no such editor: apt-get install xfig, or name another in FIG_EDITOR')
@@ -92,7 +96,7 @@ def word_plain():
     with own.Work(with_drawing=True) as work:
         if not os.path.exists('drawing.fig'):
             fail('no drawing was refused')
-        text, told, _ = make_plain(own.folder.content('drawing.fig'))
+        text, told, _ = make_plain(folder.content('drawing.fig'))
         for line in told:
-            own.say(line)
+            say(line)
         take(work, text)

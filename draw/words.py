@@ -4,13 +4,15 @@ import sys
 
 import folder
 import ids
+import names
 from telling import Failure, fail, say, tell
 
 MODULES = {
-    '': 'window', 'plain': 'window', 'site': 'beginning', 'bring': 'beginning', 'list': 'shapes', 'name': 'naming',
-    'move': 'shapes', 'copy': 'shapes', 'set': 'setting', 'delete': 'undoing', 'restore': 'undoing', 'keep': 'settling',
-    'undo': 'undoing', 'redo': 'undoing', 'log': 'log', 'status': 'pulling', 'picture': 'pictures', 'pull': 'pulling',
-    'push': 'pulling', 'watch': 'watching', 'page': 'serving', 'anew': 'beginning',
+    '': 'window', 'plain': 'window', 'site': 'beginning', 'bring': 'beginning', 'list': 'listing', 'name': 'naming',
+    'move': 'shifting', 'copy': 'shifting', 'set': 'setting', 'delete': 'undoing', 'restore': 'undoing',
+    'keep': 'settling', 'undo': 'undoing', 'redo': 'undoing', 'log': 'log', 'status': 'pulling',
+    'picture': 'pictures', 'pull': 'pulling', 'push': 'pulling', 'watch': 'watching', 'page': 'serving',
+    'anew': 'beginning',
 }
 HELP = ('help', '--help', '-h')
 WITHOUT_LINES = ('site', 'page', 'bring')  # words for a folder without any operation lines
@@ -67,13 +69,12 @@ def fits(form, word, arguments):
 
 
 def fits_all(kinds, arguments):
-    """Whether each argument is of its kind, where a last one in brackets may be left out, and one with dots repeat."""
-    at, optional = 0, False
+    """Whether each argument is of its kind, where the last in brackets may be left out, and one with dots repeat."""
+    at = 0
     for kind in kinds:
-        optional = optional or kind.startswith('[')
-        repeats, kind = kind.rstrip(']').endswith('..'), kind.strip('[]').removesuffix('..')
         if at == len(arguments):
-            return optional
+            return kind.startswith('[')
+        repeats, kind = kind.rstrip(']').endswith('..'), kind.strip('[]').removesuffix('..')
         last = len(arguments) if repeats else at + 1
         if not all(KINDS.get(kind, kind.__eq__)(argument) for argument in arguments[at:last]):
             return False
@@ -83,18 +84,19 @@ def fits_all(kinds, arguments):
 
 def fits_page(arguments):
     """Sites with names, and then options of the server."""
-    while arguments and arguments[0][:2] in [f'{site}=' for site in range(1, 9)] and arguments[0][2:].strip(' =-'):
+    while arguments and is_designer(arguments[0]):
         arguments = arguments[1:]
     options = arguments[::2]
     return len(arguments) % 2 == 0 and all(option in ('--port', '--listen', '--host') for option in options)
 
 
+def is_designer(word):
+    site, _, name = word.partition('=')
+    return site in tuple('12345678') and name.strip(' =-') != ''
+
+
 def is_object(word):
-    return ids.read_id(word) is not None or ids.read_range(word) is not None or is_name(word)
-
-
-def is_name(word):
-    return word[:1].isalpha() and word.isascii() and len(word) <= 40 and word.replace('-', '').replace('_', '').isalnum()
+    return ids.read_id(word) is not None or ids.read_range(word) is not None or names.is_name(word)
 
 
 def is_number(word, most):
@@ -107,7 +109,7 @@ KINDS = {
     'DY': lambda word: is_number(word.removeprefix('-'), 7),
     'OBJECT': is_object,
     'OPERATION': lambda word: ids.read_id(word) is not None,
-    'NAME': is_name,
+    'NAME': names.is_name,
     'DESIGNER': bool,
     'ATTRIBUTE': lambda word: word in ('place', 'points', 'size', 'colour', 'layer', 'shown'),
     'VALUE': bool,

@@ -1,4 +1,4 @@
-"""The figures of `fig --named`: they are listed, moved, and copied."""
+"""What is shown, and the versions of objects."""
 import folder
 import ids
 import names
@@ -36,7 +36,8 @@ def figures(text):
             apart += ''.join(' ' + word for word in apart_of(words, not apart))
         elif line.startswith('1 '):
             kind = 'circle' if words[1] == '3' else 'ellipse'
-            yield object, apart, f'{kind} place {words[12]} {words[13]} size {words[14]} {words[15]} {colours.get(words[5])}'
+            place, size = ' '.join(words[12:14]), ' '.join(words[14:16])
+            yield object, apart, f'{kind} place {place} size {size} {colours.get(words[5])}'
         elif line.startswith('2 '):
             kind, number = words[1], words[5]
         elif line.startswith(' ') and number:
@@ -58,54 +59,3 @@ def polyline(kind, words, colour):
         x, y = int(words[0]), int(words[1])
         return f'box place {x} {y} size {int(words[4]) - x} {int(words[5]) - y} {colour}'
     return f'polygon of {len(words) // 2 - 1} points from {words[0]} {words[1]} {colour}'
-
-
-def word_move(dx, dy, *words):
-    shift(int(dx), int(dy), words, copies=False)
-
-
-def word_copy(dx, dy, *words):
-    shift(int(dx), int(dy), words, copies=True)
-
-
-def shift(dx, dy, words, copies):
-    """Takes the drawing with objects moved, or with copies of them in front of them."""
-    import own  # here alone, as a list needs none of it
-    with own.Work() as work:
-        text = folder.over_lines('fig', '--named', read=work.lines)
-        shown = {object for object, _, _ in figures(text)}
-        wanted = names.chosen(words, lambda: shown)
-        for object in wanted:
-            if object not in shown:
-                own.fail(f'there is no shown object {ids.name(object)}: draw list names what is shown')
-        work.apply('take', shifted(text.decode(), set(wanted), dx, dy, copies).encode())
-
-
-def shifted(text, wanted, dx, dy, copies):
-    """A text in which the figures of these objects stand elsewhere, or copies of them."""
-    found, chosen, head = [], False, ''
-    for line in text.splitlines():
-        words = line.split()
-        if is_name(words):
-            chosen = ids.read_id(words[2]) in wanted
-        if not chosen or line.startswith('#'):
-            found.append(line)
-            continue
-        if copies:
-            found.append(line)
-        if line.startswith('2 '):
-            head = line
-            continue
-        if line.startswith('1 '):
-            moved(words, 12, 14, dx, dy)
-            moved(words, 16, 20, dx, dy)
-        else:
-            moved(words, 0, len(words), dx, dy)
-            found.append(head)
-        found.append(' '.join(words))
-    return '\n'.join(found) + '\n'
-
-
-def moved(words, first, last, dx, dy):
-    for at in range(first, last, 2):
-        words[at], words[at + 1] = str(int(words[at]) + dx), str(int(words[at + 1]) + dy)
