@@ -261,7 +261,7 @@ else
     echo "by-git: skipped, as there is no git"
 fi
 missing=
-for tool in git pngtopnm flock fig2dev; do
+for tool in git jq pngtopnm flock fig2dev; do
     command -v "$tool" > /dev/null || missing="$missing $tool"
 done
 if [ -z "$missing" ]; then
