@@ -12,7 +12,7 @@ class Operation:
     """A line, read. What is no operation raises one of ODD."""
 
     def __init__(self, line):
-        self.fields = json.loads(line)
+        self.line, self.fields = line, json.loads(line)
         self.id = pair(self.fields['id'])
         self.past = self.fields['past']
         self.object = pair(self.fields.get('object') or self.fields['id'])
@@ -51,9 +51,9 @@ def objects(lines):
     return {operation.id for operation in read(lines).values() if operation.attribute is None}
 
 
-def within(lines, past):
+def within(all, past):
     """The lines of whoever knew so many operations of each site."""
-    return b''.join(line + b'\n' for line in lines.split(b'\n') if line.strip() and is_within(Operation(line).id, past))
+    return b''.join(operation.line + b'\n' for operation in all.values() if is_within(operation.id, past))
 
 
 def is_within(id, past):

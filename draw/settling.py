@@ -10,6 +10,7 @@ from telling import fail, lines_of, tell, write
 
 MOST_SHOWN = 1000  # versions of a drawing
 MOST_OBJECTS = 200  # of which is told what is to be settled; the others come when these are settled
+MOST_BYTES = 200_000_000  # that are read to tell it, all lines for each object
 
 
 class Trouble:
@@ -59,7 +60,7 @@ class Unsettled:
     def __init__(self, lines, site):
         self.lines, self.site = lines, site
         self.others, troubles = status(lines)
-        self.troubles = troubles[:MOST_OBJECTS]
+        self.troubles = troubles[:min(MOST_OBJECTS, 1 + MOST_BYTES // (len(lines) + 1))]
         self.more = len(troubles) - len(self.troubles)
         self.all = operations.read(lines) if troubles else {}
         self.names = designers.Designers()

@@ -41,22 +41,18 @@ def restore(work, object, all):
             if each.value('shown') is False and not any(other.knows(each) for other in of_shown)]
     if not last:
         return [change(work.site, object, 'shown', True)]
-    return show_again(work.site, work.lines, object, [each.past for each in last])
+    return show_again(work.site, work.lines, object, [operations.within(all, each.past) for each in last])
 
 
-def show_again(site, lines, object, pasts):
-    """The commands that show of an object what was shown where so many operations were known."""
-    before = [version.operations for past in pasts for version in then(lines, object, past) if version.shown]
+def show_again(site, lines, object, befores):
+    """The commands that show of an object what was shown by the lines that were known before."""
     now = operations.versions(lines, object)
+    before = [version.operations for known in befores for version in operations.versions(known, object)
+              if version.shown]
     hidden = [version.operations for version in now if not version.shown]
     again = [operations_now for operations_now in hidden if any(old <= operations_now for old in before)]
     aims = [set()] if len(again) == len(now) else again
     return [change(site, object, 'shown', True, aim=sorted(aim)) for aim in aims]
-
-
-def then(lines, object, past):
-    known = operations.within(lines, past)
-    return operations.versions(known, object) if object in operations.objects(known) else []
 
 
 class Step:
@@ -66,7 +62,8 @@ class Step:
         self.work, self.site, self.first, self.last = work, work.site, first, last
         self.all = operations.read(work.lines)
         self.past = self.all[first].past  # what was known before
-        self.lines = operations.within(work.lines, self.own_up_to(self.past, last[1]))
+        self.before = operations.within(self.all, self.past)
+        self.lines = operations.within(self.all, self.own_up_to(self.past, last[1]))
         self.counts = ''
 
     def own_up_to(self, past, number):
@@ -75,12 +72,11 @@ class Step:
     def back(self):
         """The operations that show again what the word hid, and take the drawing as it was before."""
         hidden = sorted({self.all[id].object for id in ids.within(self.first, self.last)
-                         if self.all[id].attribute == 'shown'})
+                         if self.all[id].attribute == 'shown' and is_within(self.all[id].object, self.past)})
         commands = [command for object in hidden
-                    for command in show_again(self.site, self.lines, object, [self.past])]
+                    for command in show_again(self.site, self.lines, object, [self.before])]
         shown = self.make('edit', script(commands)) if commands else b''
-        before = over_lines('fig', '--named', read=operations.within(self.lines, self.past))
-        return shown + self.make('take', before, shown)
+        return shown + self.make('take', over_lines('fig', '--named', read=self.before), shown)
 
     def make(self, verb, text, behind=b''):
         new, said = self.work.make(verb, text, self.lines + behind)
@@ -99,7 +95,7 @@ class Step:
             self.counts = ''
             tell(f'{"; ".join(made.changes_of(left, self.work.lines))}: that stays, as others changed it since')
         commands = script(self.command(each.fields, newest) for each in back if each not in left)
-        return commands, operations.within(self.work.lines, known)
+        return commands, operations.within(self.all, known)
 
     def command(self, fields, newest):
         def renamed(id):
