@@ -12,7 +12,7 @@ import made
 import sharing
 import storing
 from calls import figgroup
-from operations import Operation
+from operations import ODD, Operation
 from sitefile import SiteFile, part_of
 from telling import Failure, fail, lines_of, say, tell
 
@@ -63,8 +63,11 @@ class OwnFile:
 
     def last(self):
         """The id of the last operation; number 0 where there is none."""
-        lines = self.text().splitlines()
-        return Operation(lines[-1]).id if lines else (self.site, 0)
+        lines = [line for line in self.text().splitlines() if line.strip()]
+        try:
+            return Operation(lines[-1]).id if lines else (self.site, 0)
+        except ODD:
+            raise Failure(*explaining.why(b'draw: the last line of the own file is no operation\n', folder.lines()))
 
 
 def alone():
@@ -95,11 +98,12 @@ class Work:
         if os.path.exists('drawing.fig') and not self.with_drawing:
             fail('drawing.fig is not taken yet: draw opens it, rm drawing.fig gives it up')
         self.lines = folder.lines()
+        last = ids.name(self.own.last())
         for number in SIGNALS:
             signal.signal(number, end)
         try:
             with open('drawing.word', 'w') as word:
-                word.write(f'behind {ids.name(self.own.last())}\n')
+                word.write(f'behind {last}\n')
         except OSError:
             self.__exit__()
             fail('no file can be written, and nothing was made: is the disk full?')

@@ -57,12 +57,14 @@ class Entry:
 
 
 class Unsettled:
+    """What is to be settled among the lines, as the copy of this site sees it."""
+
     def __init__(self, lines, site):
         self.lines, self.site = lines, site
-        self.others, troubles = status(lines)
-        self.troubles = troubles[:min(MOST_OBJECTS, 1 + MOST_BYTES // (len(lines) + 1))]
-        self.more = len(troubles) - len(self.troubles)
-        self.all = operations.read(lines) if troubles else {}
+        self.others, self.troubles = status(lines)
+        self.most = min(MOST_OBJECTS, 1 + MOST_BYTES // (len(lines) + 1))
+        self.all = operations.read(lines) if self.troubles else {}
+        self.hidings = [operation for operation in self.all.values() if operation.value('shown') is False]
         self.names = designers.Designers()
 
     def conflict(self, trouble):
@@ -87,9 +89,8 @@ class Unsettled:
     def of_hidden(self, trouble):
         """What was changed while somebody else hid it."""
         changes = [self.all[id] for id in trouble.changes]
-        hidings = [operation.id for operation in self.all.values()
-                   if operation.object == trouble.object and operation.value('shown') is False
-                   and any(not change.knows(operation) and not operation.knows(change) for change in changes)]
+        hidings = [hiding.id for hiding in self.hidings if hiding.object == trouble.object
+                   and any(not change.knows(hiding) and not hiding.knows(change) for change in changes)]
         what = ', '.join(sorted({change.attribute for change in changes}))
         if trouble.shown:
             text = f'{what}: {self.people(trouble.changes)} changed a version that {self.people(hidings)} hid'
@@ -111,7 +112,7 @@ class Unsettled:
     def told(self):
         """What happened, and behind it the words that settle it."""
         entries = {}
-        for trouble in self.troubles:
+        for trouble in self.troubles[:self.most]:
             entry = self.entry(trouble)
             if entry:
                 entries.setdefault(entry.key, []).append((trouble.object, entry))
@@ -124,8 +125,8 @@ class Unsettled:
             label = ', '.join(known.labels(objects, there))
             told.append(f'{label} {entry.one if len(objects) == 1 else entry.several}')
             told.append('    ' + ', or '.join(way.format(words) for way in entry.ways))
-        if self.more:
-            told.append(f'{self.more} objects more are told when these are settled')
+        if len(self.troubles) > self.most:
+            told.append(f'{len(self.troubles) - self.most} objects more are told when these are settled')
         return told
 
 
@@ -143,7 +144,8 @@ def word_keep(which, *words):
         elif which == '--site':
             commands = keep_all(work, words[1:], lambda *_: int(words[0]))
         else:
-            commands = [keep(work.site, ids.read_id(which), map(ids.read_id, words))]
+            objects = names.chosen([which], lambda: operations.objects(work.lines))
+            commands = [keep(work.site, object, map(ids.read_id, words)) for object in objects]
         if commands:
             work.apply('edit', operations.script(commands))
 
@@ -166,22 +168,26 @@ def keep_all(work, words, of):
     unsettled = Unsettled(work.lines, work.site)
     troubles = {trouble.object: trouble for trouble in unsettled.troubles}
     chosen = names.chosen(words, lambda: operations.objects(work.lines)) if words else list(troubles)
-    one_by_one = set(map(ids.read_id, words))
-    commands = []
-    for object in chosen:
-        trouble = troubles.get(object)
-        if trouble and trouble.attributes:
-            commands += keep_of(unsettled, trouble, of)
-        elif trouble and trouble.shown and trouble.changes:
-            commands.append(keep(work.site, object, []))
-        elif object in one_by_one or trouble and unsettled.entry(trouble):
+    for object in map(ids.read_id, words):
+        if object and object not in troubles:
             tell(f'{ids.name(object)} stays: it has no versions in conflict')
+    open_ones = [troubles[object] for object in chosen if object in troubles]
+    commands = [command for trouble in open_ones[:unsettled.most] for command in keep_of(unsettled, trouble, of)]
+    if len(open_ones) > unsettled.most:
+        tell(f'{len(open_ones) - unsettled.most} objects more stay: give the word again')
     if not commands:
         tell('nothing was settled' if troubles else 'all is settled')
     return commands
 
 
 def keep_of(unsettled, trouble, of):
+    """The command for one object, if it is clear what stays."""
+    if not trouble.attributes:
+        if trouble.shown and trouble.changes:  # what is hidden of it stays hidden
+            return [keep(unsettled.site, trouble.object, [])]
+        if unsettled.entry(trouble):
+            tell(f'{ids.name(trouble.object)} stays: it has no versions in conflict')
+        return []
     conflict = unsettled.conflict(trouble)
     site = of(unsettled, conflict)
     kept = conflict.kept(site)

@@ -135,4 +135,4 @@ def go(here, there, none_left):
             fail(f'nothing that is seen came of {ids.span(*span)}: draw {here} again goes to the word before')
         new, said = work.make('edit', commands, lines)
         said = [f'{line}:{step.counts}' if step.counts else line for line in said]
-        work.add(new, said, lambda span: noted.spans[there].append(span) or noted.spans)
+        work.add(new, said, lambda span: {**noted.spans, there: [*noted.spans[there], span]})

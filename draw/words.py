@@ -24,7 +24,7 @@ def main(document, typed):
     os.environ['PATH'] += ':' + os.path.dirname(os.path.realpath(sys.argv[0]))
     help = [line.removeprefix('  ') for line in document.split('\n') if line.startswith('  draw ')]
     word, arguments = (typed or [''])[0], typed[1:]
-    if word in HELP and not arguments:
+    if word in HELP:
         print('\n'.join(help))
         return 0
     if word not in MODULES or typed == ['']:

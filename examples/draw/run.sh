@@ -517,11 +517,39 @@ say "cmp drawing.png firs.png"
 say "pngtopnm firs.png > firs.ppm"
 say "cat site-*.jsonl | figgroup paint --fit --width 800 --height 600 | cmp - firs.ppm"
 
+heading "many objects"
+mkdir "$folder/many"
+cd "$folder/many"
+for i in $(seq 210); do
+    echo "{\"site\":1,\"do\":\"create\",\"kind\":\"box\",\"place\":[$i,0],\"size\":[9,9],\"colour\":\"000000\",\"layer\":$i,\"shown\":true}"
+done | figgroup edit --site 1 > ../site-1.jsonl 2> /dev/null
+cp ../site-1.jsonl .
+draw site 1 > /dev/null
+say "draw move 5 5 1.1-1.210"
+mv site-1.jsonl ../ann.jsonl
+cp ../site-1.jsonl .
+rm site drawing.last
+draw site 2
+say "draw move 0 5 1.1-1.210"
+cp ../ann.jsonl site-1.jsonl
+say "draw name pile 1.1-1.210"
+say "draw status"
+say "draw keep --theirs"
+say "draw status"
+say "draw keep --theirs pile"
+say "draw status"
+say "draw undo"
+say "draw status"
+say "draw list | sed -n 1p"
+
 heading "what is refused"
 begin refused
 draw site 1 > /dev/null
 cp site-1.jsonl before
 say "draw paint"
+say "draw help"
+say "draw keep fir 1.7"
+say "draw keep --site"
 say "draw move 10 1.1"
 say "draw move 10 10 fir"
 say "draw move 10 10 1.1 1.9"
@@ -543,8 +571,13 @@ printf '%s' "$(cat before)" > site-1.jsonl
 say "draw delete 1.1"
 echo >> site-1.jsonl
 say "cmp before site-1.jsonl"
+echo '{}' >> site-1.jsonl
+say "draw delete 1.1"
+say "draw undo"
+cp before site-1.jsonl
 echo '{"id":[2,2],"object":' >> site-2.jsonl
 say "draw delete 1.1"
+say "draw delete 1.1-1.3"
 say "draw list"
 say "FIG_EDITOR=true draw"
 sed -i '$d' site-2.jsonl
@@ -780,6 +813,7 @@ cd ../ann
 say "(sleep 1; cd ../ben; draw set 1.1 colour ffffff; draw push) > /dev/null 2>&1 & timeout -s INT 16 draw watch --every 10; wait"
 say "flock site sh -c 'sleep 2; echo the word ends' & sleep 1; timeout -s INT 6 draw watch; wait"
 say "draw watch --every 5"
+say "draw watch --every"
 
 heading "what git says is told for what it is"
 printf '#!/bin/sh\nprintf "no \\033[31mthanks\\n" >&2\nexit 1\n' > ../drawing.git/hooks/pre-receive
