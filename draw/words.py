@@ -21,7 +21,8 @@ WITHOUT_LINES = ('site', 'page', 'bring')  # words for a folder without any oper
 def main(document, typed):
     """Does a word, and answers the status of the program."""
     os.environ['LC_ALL'] = 'C'  # what other programs tell is looked at
-    os.environ['PATH'] += ':' + os.path.dirname(os.path.realpath(sys.argv[0]))
+    beside = os.path.dirname(os.path.realpath(sys.argv[0]))
+    os.environ['PATH'] = os.environ.get('PATH', os.defpath) + ':' + beside
     help = [line.removeprefix('  ') for line in document.split('\n') if line.startswith('  draw ')]
     word, arguments = (typed or [''])[0], typed[1:]
     if word in HELP:
