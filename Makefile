@@ -13,10 +13,12 @@ version = $(shell bin/figgroup --version | cut -d ' ' -f 2)+$(shell git log -1 -
 
 install:
 	./prove --check
-	install -d $(at)/bin $(at)/share/figgroup/page/web $(at)/share/doc/figgroup
+	install -d $(at)/bin $(at)/share/figgroup/page/web $(at)/share/figgroup/draw $(at)/share/doc/figgroup
 	install bin/figgroup bin/draw $(at)/bin
 	install -m 644 share/figgroup/* $(at)/share/figgroup
 	install -m 644 page/*.py $(at)/share/figgroup/page
+	install -m 644 draw/*.py $(at)/share/figgroup/draw
+	/usr/bin/python3 -m compileall -q -s '$(DESTDIR)' --invalidation-mode unchecked-hash $(at)/share/figgroup/draw $(at)/share/figgroup/page
 	install -m 644 page/web/* $(at)/share/figgroup/page/web
 	install -m 644 README.md bin/figgroup.sum docs/*.md $(at)/share/doc/figgroup
 	install -d $(at)/share/man/man1 $(at)/share/bash-completion/completions
@@ -29,9 +31,9 @@ Package: figgroup
 Version: $(version)
 Architecture: amd64
 Maintainer: the figgroup project <figgroup@localhost>
-Depends: libc6 (>= 2.34)
-Recommends: xfig, jq, git, netpbm, python3-tornado
-Suggests: fig2dev
+Depends: libc6 (>= 2.34), python3 (>= 3.9)
+Recommends: xfig, git, netpbm, python3-tornado
+Suggests: fig2dev, jq
 Section: graphics
 Priority: optional
 Description: figures drawn by a group, by a proved program

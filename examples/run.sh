@@ -1,15 +1,14 @@
 #!/bin/sh
-# Runs each example and compares its output with what is expected of it: the lines by figgroup, and
-# each FIG text by bench_fig, which reads it and writes what it read. Where there is a window, whose
-# words stand in the file of that name, the lines are painted in it and expected.fig is repainted.
-# Where there is a script, it is run as a session of as many sites as the file sites says. Where the
-# named text or the status of the lines is expected, or their faults or those of commands are, these are compared; and where
-# there are changes, the operations that site 1 makes of them, and the status with these. Each picture that the file
-# pictures names, with its lines and its window, is painted anew and compared. What an import makes of
-# house.fig is compared with imported.jsonl; what plain.awk makes and tells of a drawing, by each awk, with NAME.plain.fig,
-# NAME.txt and NAME.groups, and what site 2 takes of it, beside the lines of the example named, with NAME.jsonl. Random
-# drawings are changed and taken, others made plain. Last README, the guide to imports, the tutorial and by-git are
-# typed, and the script of draw is run.
+# Runs each example and compares its output with what is expected of it: the lines by figgroup, and each FIG text by
+# bench_fig, which reads it and writes what it read. Where there is a window, whose words stand in the file of that name,
+# the lines are painted in it and expected.fig is repainted. Where there is a script, it is run as a session of as many
+# sites as the file sites says. Where the named text or the status of the lines is expected, or their faults or those of
+# commands are, these are compared; and where there are changes, the operations that site 1 makes of them, and the status
+# with these. Each picture that the file pictures names, with its lines and its window, is painted anew and compared.
+# What an import makes of house.fig is compared with imported.jsonl; what plain.awk makes and tells of a drawing, by each
+# awk, with NAME.plain.fig, NAME.txt and NAME.groups, and what site 2 takes of it, beside the lines of the example named,
+# with NAME.jsonl. Random drawings are changed and taken, others made plain. Last README, the guide to imports, the
+# tutorial and by-git are typed, and the scripts of draw and week are run.
 set -eu
 examples=$(cd "$(dirname "$0")" && pwd)
 root=$(dirname "$examples")
@@ -302,13 +301,14 @@ else
     echo "by-git: skipped, as there is no git"
 fi
 missing=
-for tool in git jq pngtopnm flock; do
+for tool in git jq pngtopnm flock fig2dev; do
     command -v "$tool" > /dev/null || missing="$missing $tool"
 done
 if [ -z "$missing" ]; then
     compare "draw" "$examples/draw/expected.txt" env PATH="$root/bin:$PATH" "$examples/draw/run.sh"
+    compare "week" "$examples/week/expected.txt" env PATH="$root/bin:$PATH" "$examples/week/run.sh"
 else
-    echo "draw: skipped, as there is no$missing"
+    echo "draw, week: skipped, as there is no$missing"
 fi
 echo "$passed passed, $failed failed"
 [ "$failed" = 0 ]

@@ -74,7 +74,7 @@ class Drawing:
             end = time.monotonic() + WAIT
             while not (held := file.lock()):
                 if time.monotonic() > end:
-                    raise Refusal(f'another program has locked {file.path.name}')
+                    raise Refusal(f'another program has locked {file.name}')
                 await asyncio.sleep(0.02)
             with held:
                 await asyncio.to_thread(file.finish_append, held)

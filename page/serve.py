@@ -217,7 +217,8 @@ def keep_known(folder, names):
     secret = {site: old[site][0] if site in old else secrets.token_urlsafe(16) for site in names}
     known = {**old, **{site: (secret[site], name) for site, name in names.items()}}
     if known != old:
-        write_whole(folder / 'drawing.secrets', json.dumps({str(site): both for site, both in known.items()}).encode())
+        text = json.dumps({str(site): both for site, both in known.items()})
+        write_whole(folder / 'drawing.secrets', text.encode(), 0o600)
     return secret
 
 

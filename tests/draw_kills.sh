@@ -1,7 +1,8 @@
 #!/usr/bin/env bash
 # Kills words of draw by -9 at random moments, so many times, and asks after each: no line is lost, none is half, none
-# is double, no id is there twice; the next word goes, and tells what the killed one made. Every other time the shell
-# alone is killed, and what it had begun goes on. Where root can mount a small disk, words find more and more room.
+# is double, no id is there twice; the next word goes, and tells what the killed one made. Every other time draw
+# alone is killed, and what it had begun, as a window, goes on. Where root can mount a small disk, words find more and
+# more room.
 #
 #     tests/draw_kills.sh [N]
 set -euo pipefail
@@ -177,8 +178,8 @@ while [ $turn -lt "$kills" ]; do
     2) word=undo ;;
     esac
     try $word
-    # What an undo is to change back has to be there, where the kill let nothing come.
-    [ -f drawing.last ] && draw undo > /dev/null 2>&1 || draw move 1 1 2.1 2> /dev/null
+    draw undo > /dev/null 2>&1 || true  # where the kill let nothing come there may be nothing to undo
+    draw move 1 1 2.1 2> /dev/null  # which the next undo changes back
     turn=$((turn + 1))
 done
 [ $((all + none)) = "$kills" ] || failed "only $turn kills"

@@ -20,6 +20,7 @@ cd "$folder/day"
 figgroup fig < "$root/examples/red-box/input.jsonl" | cmp - "$root/examples/red-box/expected.fig"
 draw site 3 
 FIG_EDITOR="cp '$root/examples/draw/saved/first-figure.fig'" draw 2>&1 | grep -q '^figgroup: made 3.1'
+draw bring "$root/examples/tutorial/house.fig" 2>&1 | grep -q '^figgroup: made 3.2 to 3.6'
 # The page is found, and says what it lacks: designers, or python3-tornado.
 draw page 2>&1 | grep -q 'who draws\|python3-tornado'
 for page in figgroup draw; do

@@ -61,7 +61,9 @@ say "cat site-3.jsonl"
 say "draw undo"
 say "draw list"
 say "draw undo"
+say "draw redo"
 say "draw list"
+say "draw redo"
 
 heading "a window"
 begin window
@@ -90,7 +92,7 @@ begin mended
 draw site 2 > /dev/null
 say "FIG_EDITOR='cp $saved/refused-outline.fig' draw"
 say "draw move 10 10 1.1"
-say "draw status | sed -n 1,2p"
+say "draw status"
 say "FIG_EDITOR=true draw"
 say "FIG_EDITOR=\"sed -i 's/^2 2 0 1 0 7 50 -1 -1/2 2 0 0 0 7 50 -1 20/'\" draw"
 say "tail -n 1 site-2.jsonl"
@@ -112,6 +114,252 @@ say "draw plain"
 say "FIG_EDITOR='cp $root/examples/plain/old.fig' draw > /dev/null 2>&1"
 say "draw plain"
 
+heading "a drawing with compounds alone"
+begin compounds
+draw site 2 > /dev/null
+say "FIG_EDITOR=\"sed -i '0,/^# figgroup [0-9]/s//6 0 0 4800 3000\\n&/; s/4050 660/4000 660/g; \\\$a -6'\" draw"
+say "ls"
+say "draw list 1.1"
+
+heading "a drawing brought in"
+mkdir "$folder/bring"
+cd "$folder/bring"
+# What plain.awk tells is tried by examples/plain.
+bring() {
+    "$root/bin/draw" bring "$@" 2>&1 | sed '/^plain/d'
+}
+export -f bring
+cp "$root/examples/tutorial/house.fig" .
+say "draw bring house.fig"
+draw site 3
+say "draw bring stall.fig"
+say "draw bring stall.png"
+say "bring $root/examples/plain/old.fig"
+say "bring house.fig"
+say "draw list"
+say "draw undo"
+say "draw list"
+# In place of plain.awk a script that tells of two groups.
+mkdir -p other/share/figgroup other/bin
+cp -r "$root/draw" "$root/page" other
+cp "$root/bin/draw" other/bin
+cat > other/share/figgroup/plain.awk << 'END'
+{ print }
+END { print "box-10 2 3" > groups; print "text-14 4 4" > groups; print "box-10 4 5" > groups; print "e\033[2J 1 5" > groups }
+END
+say "other/bin/draw bring house.fig"
+say "cat names"
+rm -r other
+head -n 9 "$root/examples/red-box/expected.fig" > many.fig
+for i in $(seq 996); do printf '2 2 0 0 0 0 50 -1 20 0.000 0 0 -1 0 0 5\n\t 0 0 %d 0 %d 9 0 9 0 0\n' $i $i; done >> many.fig
+say "bring many.fig"
+say "wc -l < site-3.jsonl"
+
+heading "names and ranges"
+begin names
+draw site 1 > /dev/null
+say "draw name"
+say "draw name house 1.3-1.5"
+say "draw name fir 1.6"
+say "draw name fir"
+say "draw name"
+say "draw list"
+say "draw move 10 0 house 1.1"
+say "draw move 10 0 1.1-1.5"
+say "draw set 1.3-1.4 colour ffffff"
+say "draw delete house"
+say "draw restore house 1.1"
+say "draw restore 1.1-1.6"
+say "draw restore house"
+say "draw copy 0 10 1.1-1.6 | grep -v made"
+say "draw log house | tail -n 3"
+say "draw list house | cut -d ' ' -f 1-5"
+say "draw status"
+say "draw name sky 1.1-1.10001"
+say "draw name sky 1.1-1.1000000000"
+say "draw name sky 1.3-1.1"
+say "draw name sky 1.1-2.3"
+say "draw name 1.1 1.2"
+say "draw name roof house"
+say "draw name shed"
+say "draw move 1 1 shed"
+say "draw move 1 1 1.7-1.9"
+say "draw site 1 Ann"
+say "draw site 1 \$'A\\e[31m'"
+say "draw site 1 'Ann the first of all who drew here, and the last'"
+say "cat designers"
+
+heading "names and designers that others wrote"
+begin others
+draw site 2 > /dev/null
+printf 'car 1.1-1.3\nbad\e[2J 1.1\n2cars 1.1\nhuge 1.1-1.1000000000\nnest car\n\ncar 1.5\nfar 3.1-3.9\nbin \xff\xfe\n' > names
+printf '1 Ann\e[31m\n9 Eva\nBen\n2 Ben the second\n2 Ben\n' > designers
+say "draw name"
+say "draw status"
+say "draw move 10 0 car"
+say "draw move 10 0 far"
+for i in $(seq 20); do echo "n$i 1.1-1.10000"; done > names
+say "draw name | cut -c 1-20 | sort | tail -n 3"
+head -c 10000000 /dev/zero | tr '\0' '\n' > names
+cp names designers
+say "draw status"
+say "draw move 10 0 car"
+say "draw name car 1.1"
+rm names designers
+ln -s ../kept names
+say "draw status"
+say "draw name car 1.1"
+rm names
+
+heading "one side of all conflicts"
+begin sides
+draw site 1 > /dev/null
+say "draw keep --mine"
+say "draw keep --mine"
+say "draw list 1.6 | grep -c shown"
+say "draw undo"
+say "draw keep --theirs 1.6"
+say "draw undo"
+say "draw keep --mine 1.1 1.6"
+say "draw undo"
+say "draw keep --site 3"
+say "draw keep --site 2 1.9"
+say "draw keep --site 9"
+say "draw keep --mine"
+say "draw undo"
+# Site 3 knew nothing of the two, moved the fir, and coloured the roof as site 1 did at once.
+{ head -n 6 site-1.jsonl
+  echo '{"site":3,"do":"set","object":[1,6],"set":"place","to":[1900,2700]}'
+  echo '{"site":3,"do":"set","object":[1,5],"set":"colour","to":"ff0000"}'; } | figgroup edit --site 3 > made 2> /dev/null
+draw set 1.5 colour 000000 2> /dev/null
+cp made site-3.jsonl
+say "draw status"
+say "draw keep --theirs"
+say "draw keep --theirs 1.5"
+say "draw keep --site 3"
+say "draw status"
+
+heading "many alike"
+begin alike
+draw site 1 > /dev/null
+cp site-1.jsonl before
+draw keep --mine 2> /dev/null
+draw name house 1.3-1.5
+cp site-*.jsonl ..
+draw move 50 0 house 1.1 2> /dev/null
+draw set 1.2 size 5000 4000 2> /dev/null
+draw set 1.6 points 0,0 10,0 0,10 2> /dev/null
+cp site-1.jsonl ../ann.jsonl
+cp ../site-1.jsonl .
+rm site drawing.last
+draw site 2 > /dev/null
+draw move 0 -30 1.3-1.5 1.1 2> /dev/null
+draw set 1.2 size 4000 2000 2> /dev/null
+draw set 1.6 points $(for i in $(seq 0 20); do echo "$i,$((i * i))"; done) 2> /dev/null
+cp ../ann.jsonl site-1.jsonl
+printf '1 Ann\n2 Ben\n' > designers
+say "draw status"
+say "draw keep --mine house"
+say "draw keep --theirs 1.1-1.2"
+say "draw keep --theirs"
+say "draw status"
+
+heading "hidden, and changed at once"
+begin hidden
+draw site 1 > /dev/null
+draw keep --mine 2> /dev/null
+draw name house 1.3-1.5
+cp site-*.jsonl ..
+draw delete 1.1 house 2> /dev/null
+draw delete 1.2 2> /dev/null
+cp site-1.jsonl ../ann.jsonl
+cp ../site-1.jsonl .
+rm site drawing.last
+draw site 2 > /dev/null
+draw move 10 10 1.1 house 2> /dev/null
+draw delete 1.2 2> /dev/null
+echo '{"site":2,"do":"set","object":[1,6],"set":"place","to":[1,1],"aim":[[2,1]]}' > ../commands
+cat ../site-*.jsonl ../commands | figgroup edit --site 2 2> /dev/null | sed 's/"id":\[2,2\]/"id":[2,7]/' > /dev/null
+cp ../ann.jsonl site-1.jsonl
+say "draw status"
+say "draw restore 1.1"
+say "draw delete house"
+say "draw status"
+# Each hides a version that the other one keeps.
+begin crossed
+{ cat site-*.jsonl; echo '{"site":1,"do":"set","object":[1,6],"set":"shown","to":false,"aim":[[2,1]]}'; } |
+    figgroup edit --site 1 > ../ann 2> /dev/null
+{ cat site-*.jsonl; echo '{"site":2,"do":"set","object":[1,6],"set":"shown","to":false,"aim":[[1,7]]}'; } |
+    figgroup edit --site 2 > ../ben 2> /dev/null
+cat ../ann >> site-1.jsonl
+cat ../ben >> site-2.jsonl
+say "draw status"
+# A version that was settled away is changed by one who did not know it.
+begin ghost
+{ cat site-*.jsonl; echo '{"site":2,"do":"set","object":[1,6],"set":"place","to":[1,1],"aim":[[2,1]]}'; } |
+    figgroup edit --site 2 > ../ben 2> /dev/null
+draw site 1 > /dev/null
+draw keep --mine 2> /dev/null
+cat ../ben >> site-2.jsonl
+say "draw status"
+say "draw keep --mine 1.6"
+say "draw status"
+say "draw list 1.6 | cut -d ' ' -f 1-20"
+
+heading "undo and redo, word by word"
+begin undo
+draw site 1 > /dev/null
+say "draw redo"
+say "draw move 10 0 1.1"
+say "draw delete 1.2"
+say "draw copy 10 10 1.5"
+say "draw set 1.3 layer 1"
+say "draw list > ../then"
+say "draw undo"
+say "draw undo"
+say "draw undo"
+say "draw undo"
+say "draw undo"
+say "draw redo"
+say "draw redo"
+say "draw redo"
+say "draw redo"
+say "draw redo"
+say "draw list | sed 's/^1.[0-9]*:/1.N:/' | cmp - <(sed 's/^1.[0-9]*:/1.N:/' ../then)"
+say "draw undo"
+say "draw set 1.4 colour 000000"
+say "draw redo"
+say "draw undo"
+say "draw undo"
+# What another program wrote between is not undone.
+echo '{"site":1,"do":"set","object":[1,3],"set":"colour","to":"00ff00"}' > commands
+cat site-*.jsonl commands | figgroup edit --site 1 >> site-1.jsonl 2> /dev/null
+say "draw undo"
+say "draw set 1.3 colour 0000ff"
+say "draw undo"
+say "draw undo"
+# The note of an older draw has one line.
+sed -i 1q drawing.last
+say "draw undo"
+say "draw undo"
+# At most 100 words are noted.
+awk '{ print } /^undo/ { for (i = 0; i < 100; i++) printf " 1.1-1.1" > "/dev/stderr" }' drawing.last > /dev/null 2> ../spans
+sed -i "s/^undo.*/undo$(cat ../spans)/" drawing.last
+say "draw set 1.3 colour 0000ff"
+say "sed -n '/^undo/p' drawing.last | wc -w"
+say "sed -n '/^undo/p' drawing.last | grep -o '[^ ]*\$'"
+
+heading "pictures"
+begin pictures
+say "draw picture house.pdf"
+say "head -n 1 house.pdf"
+say "draw picture house.svg"
+say "grep -c '<polygon' house.svg"
+mkdir without
+ln -s "$(command -v python3)" "$(command -v git)" without
+say "PATH=without \$root/bin/draw picture house.pdf"
+say "PATH=without \$root/bin/draw picture house.png 2>&1 | tail -n 1"
+
 heading "an old drawing"
 begin old
 draw site 2 > /dev/null
@@ -123,7 +371,7 @@ say "tail -n 1 site-2.jsonl"
 say "FIG_EDITOR='cp $saved/refused-outline.fig' draw > /dev/null 2>&1"
 echo '{"site":2,"do":"set","object":[1,1],"set":"place","to":[2000,600]}' > commands
 cat site-*.jsonl commands | figgroup edit --site 2 >> site-2.jsonl 2> /dev/null
-say "FIG_EDITOR='cp $saved/move-version.fig' draw 2>&1 | grep -v versions"
+say "FIG_EDITOR='cp $saved/move-version.fig' draw"
 say "draw undo"
 say "rm drawing.fig"
 say "draw undo"
@@ -151,17 +399,27 @@ draw site 1 > /dev/null
 cp site-1.jsonl before
 mkdir stubs
 # Kills the word as it moves a file to this name, before or behind that; or fails to bring a file onto the disk.
-cat > stubs/mv << 'END'
-#!/bin/bash
-[ "$WHEN" != before ] || [ "${*: -1}" != "$NAME" ] || { kill -9 $PPID; exit 1; }
-command -p mv "$@"
-[ "$WHEN" != behind ] || [ "${*: -1}" != "$NAME" ] || kill -9 $PPID
+cat > stubs/draw.py << 'END'
+import os, runpy, sys
+move = os.rename
+def rename(part, path):
+    if os.environ.get('WHEN') == 'before' and path == os.environ['NAME']: os.kill(os.getpid(), 9)
+    move(part, path)
+    if os.environ.get('WHEN') == 'behind' and path == os.environ['NAME']: os.kill(os.getpid(), 9)
+def fsync(file):
+    raise OSError(28, 'No space left on device')
+os.rename = rename
+if 'FULL' in os.environ: os.fsync = fsync
+sys.argv[:2] = [sys.argv[1]]
+runpy.run_path(sys.argv[0], run_name='__main__')
 END
-printf '#!/bin/sh\ntest "$1" != -- -o "$2" = . -o -z "$FULL"\n' > stubs/sync
-chmod +x stubs/*
-killed() {
-    (PATH=$PWD/stubs:$PATH WHEN=$1 NAME=$2 "$root/bin/draw" "${@:3}" & wait $!) > /dev/null 2>&1 || echo "status $?"
+stopped() {
+    python3 -S stubs/draw.py "$root/bin/draw" "$@"
 }
+killed() {
+    (WHEN=$1 NAME=$2 stopped "${@:3}" & wait $!) > /dev/null 2>&1 || echo "status $?"
+}
+export -f stopped
 export -f killed
 say "killed before drawing.last move 10 10 1.1"
 say "draw list 1.1"
@@ -181,14 +439,14 @@ echo 'a[$(touch ran)] {}' > drawing.redo-1
 rm new drawing.taken-1
 say "draw undo"
 say "FIG_EDITOR='cp $saved/draw-kinds.fig' killed behind drawing.fig"
-say "FIG_EDITOR=true draw 2>&1 | grep -v ^object"
+say "FIG_EDITOR=true draw 2>&1 | grep -v 'place: \|keep --'"
 say "FIG_EDITOR='tail -n 2 $saved/draw-kinds.fig | tee -a' killed behind site-1.jsonl"
 say "draw list | sed -n 1,2p"
-say "FIG_EDITOR=true draw 2>&1 | grep -v ^object"
+say "FIG_EDITOR=true draw 2>&1 | grep -v 'place: \|keep --'"
 say "draw list | sed -n 1,2p"
 cp site-1.jsonl before
-say "PATH=\$PWD/stubs:\$PATH FULL=1 draw move 10 10 1.1"
-say "PATH=\$PWD/stubs:\$PATH FULL=1 draw picture 2>&1 | tail -n 1"
+say "FULL=1 stopped move 10 10 1.1"
+say "FULL=1 stopped picture 2>&1 | tail -n 1"
 say "cmp before site-1.jsonl"
 say "draw undo"
 rm -r stubs
@@ -259,11 +517,39 @@ say "cmp drawing.png firs.png"
 say "pngtopnm firs.png > firs.ppm"
 say "cat site-*.jsonl | figgroup paint --fit --width 800 --height 600 | cmp - firs.ppm"
 
+heading "many objects"
+mkdir "$folder/many"
+cd "$folder/many"
+for i in $(seq 210); do
+    echo "{\"site\":1,\"do\":\"create\",\"kind\":\"box\",\"place\":[$i,0],\"size\":[9,9],\"colour\":\"000000\",\"layer\":$i,\"shown\":true}"
+done | figgroup edit --site 1 > ../site-1.jsonl 2> /dev/null
+cp ../site-1.jsonl .
+draw site 1 > /dev/null
+say "draw move 5 5 1.1-1.210"
+mv site-1.jsonl ../ann.jsonl
+cp ../site-1.jsonl .
+rm site drawing.last
+draw site 2
+say "draw move 0 5 1.1-1.210"
+cp ../ann.jsonl site-1.jsonl
+say "draw name pile 1.1-1.210"
+say "draw status"
+say "draw keep --theirs"
+say "draw status"
+say "draw keep --theirs pile"
+say "draw status"
+say "draw undo"
+say "draw status"
+say "draw list | sed -n 1p"
+
 heading "what is refused"
 begin refused
 draw site 1 > /dev/null
 cp site-1.jsonl before
 say "draw paint"
+say "draw help"
+say "draw keep fir 1.7"
+say "draw keep --site"
 say "draw move 10 1.1"
 say "draw move 10 10 fir"
 say "draw move 10 10 1.1 1.9"
@@ -285,8 +571,13 @@ printf '%s' "$(cat before)" > site-1.jsonl
 say "draw delete 1.1"
 echo >> site-1.jsonl
 say "cmp before site-1.jsonl"
+echo '{}' >> site-1.jsonl
+say "draw delete 1.1"
+say "draw undo"
+cp before site-1.jsonl
 echo '{"id":[2,2],"object":' >> site-2.jsonl
 say "draw delete 1.1"
+say "draw delete 1.1-1.3"
 say "draw list"
 say "FIG_EDITOR=true draw"
 sed -i '$d' site-2.jsonl
@@ -474,3 +765,98 @@ git -c user.email=x@example.org -c user.name=$'a) {"id":[1,1],"past":[]} (b\e[2J
 git -c user.email=x@example.org -c user.name=$'a) {"id":[1,1],"past":[]} (b\e[2J' commit -q -m odd
 say "draw log 2> /dev/null"
 say "draw log 2>&1 > /dev/null | cut -d : -f 1-3"
+
+heading "names, undo and a watch among two"
+mkdir "$folder/shared"
+cd "$folder/shared"
+git init -q --bare -b main drawing.git
+for name in ann ben; do
+    git clone -q -c user.name=$name -c user.email=$name@example.org drawing.git $name 2> /dev/null
+    git -C $name checkout -q -b main 2> /dev/null || true
+done
+cd ann
+say "draw site 1 Ann"
+say "draw bring $root/examples/tutorial/house.fig"
+say "draw name house 1.2-1.3"
+say "draw status"
+say "draw push"
+cd ../ben
+say "draw site 2"
+say "draw pull"
+say "draw name fir 1.4"
+say "draw move 100 0 house"
+say "draw push"
+say "draw set house colour 4e342e"
+cd ../ann
+say "draw name sun 1.1"
+say "draw move 0 -50 house"
+say "draw set 1.5 colour b71c1c"
+say "draw pull"
+say "cat names"
+# What was done before the pull is changed back as it was, and stands beside what others did.
+say "draw undo"
+say "draw undo"
+say "draw status"
+say "draw redo"
+say "draw redo"
+say "draw keep --mine"
+say "draw push"
+# What came of others before a later word stays.
+cd ../ben
+say "draw pull"
+say "draw undo"
+say "draw undo"
+say "draw set 1.1 layer 0"
+say "draw undo"
+say "draw push"
+cd ../ann
+say "(sleep 1; cd ../ben; draw set 1.1 colour ffffff; draw push) > /dev/null 2>&1 & timeout -s INT 16 draw watch --every 10; wait"
+say "flock site sh -c 'sleep 2; echo the word ends' & sleep 1; timeout -s INT 6 draw watch; wait"
+say "draw watch --every 5"
+say "draw watch --every"
+
+heading "what git says is told for what it is"
+printf '#!/bin/sh\nprintf "no \\033[31mthanks\\n" >&2\nexit 1\n' > ../drawing.git/hooks/pre-receive
+chmod +x ../drawing.git/hooks/pre-receive
+draw set 1.1 colour 00ff00 2> /dev/null
+say "draw push 2>&1 | grep -v '^To\|^error'"
+rm ../drawing.git/hooks/pre-receive
+mv ../drawing.git ../elsewhere.git
+say "draw pull 2>&1 | sed -n \"s|'/.*/|'|; 1p; \\\$p\""
+say "draw push 2>&1 | sed -n \"s|'/.*/|'|; 1p; \\\$p\""
+mv ../elsewhere.git ../drawing.git
+touch .git/index.lock
+say "draw push 2>&1 | sed \"s|'.*/.git/|'.git/|\" | sed -n '1p; \$p'"
+rm .git/index.lock
+say "draw push"
+git checkout -q --detach
+say "draw pull"
+git checkout -q main
+cd ../ben
+git pull -q
+odd=$'a [b] & \n\\c'
+touch "$odd"
+git add . && git commit -q -m odd && git push -q
+cd ../ann
+touch "$odd"
+say "draw pull"
+rm "$odd"
+say "draw pull"
+cd ../ben
+rm names
+ln -s /dev/zero names
+git add . && git commit -q -m link && git push -q
+cd ../ann
+say "draw pull"
+cd ../ben
+rm names
+head -c 10000000 /dev/zero > names
+git add . && git commit -q -m long && git push -q
+cd ../ann
+say "draw pull"
+say "draw status"
+cd ../ben
+head -c 17000000 /dev/zero | tr '\0' '\n' > site-5.jsonl
+git add . && git commit -q -m long && git push -q
+cd ../ann
+say "draw pull"

@@ -142,7 +142,7 @@ class Beside(PageTest):
         self.made(1)
         self.server.draw('site', '3').communicate()
         said, _ = self.server.draw(editor="sed -i 's/^0 32 .*/0 32 #aa0000/'").communicate()
-        self.assertIn('made 3.1: 1 changed', said)
+        self.assertIn('made 3.1: 1.1 colour; 1 changed', said)
         page.wait_figures(['rect #aa0000 0 0 1000 1000'])
         page.drag((500, 500), (1500, 500))
         self.assertEqual([1, 0, 1], self.made(3)[1]['past'][:3])

@@ -306,7 +306,7 @@ class Disk(ServeTest):
         self.server.draw('site', '1').communicate()
         redo.write_bytes(b'%d {}\n' % len(first) + others + third)
         said, _ = self.server.draw('set', '1.1', 'colour', '00ff00').communicate()
-        self.assertEqual('figgroup: made 1.3\n', said)
+        self.assertEqual('figgroup: made 1.3: 1.1 colour\n', said)
         self.assertFalse(redo.exists())
 
     async def test_lost_lines(self):

@@ -1,0 +1,164 @@
+"""What others pushed comes, and what this copy made goes, by git."""
+import os
+
+import ids
+import own
+import settling
+import sharing
+from calls import git
+from folder import MOST_BYTES, SHARED, is_site_file, lines, site, site_files
+from telling import Failure, fail, lines_of, quoted, write
+
+OTHERS = ('was committed by others, and would overwrite yours, so nothing was pulled: '
+          'they type git rm --cached on it, commit and push')
+
+
+def commit_own():
+    """Commits the own file, which begins with what was committed before, and what all share. Answers the file."""
+    file = own.OwnFile()
+    if not sharing.in_git():
+        fail('this folder is in no work tree of git')
+    if not sharing.answer('branch', '--show-current'):
+        fail('no branch of git is checked out here: git switch NAME')
+    sharing.keep_committed(file.name)
+    sharing.merge_by_lines(*SHARED)
+    names = [file.name, *filter(os.path.exists, SHARED)]
+    asked('add', '--', *names)
+    if git('diff', '--cached', '--quiet', '--', *names)[0]:
+        asked('commit', '-q', '-m', f'site {file.site}: up to {ids.name(file.last())}', '--', *names)
+    file.unlock()
+    stays_apart('HEAD', 'is committed here, and would overwrite that of others: git rm --cached it, and commit that')
+    return file
+
+
+def asked(*words):
+    """What git wrote; where it refuses, what it says is told."""
+    status, wrote, said = git(*words)
+    if status:
+        raise Failure(*lines_of(wrote + said), f'draw: git {words[0]} failed, for the reason above')
+    return wrote
+
+
+def stays_apart(tree, refusal):
+    """Refuses a commit with files that each copy has for itself, and site files that are none."""
+    for mode, size, name in sharing.listed(tree):
+        if name == 'site' or name.startswith('drawing.'):
+            fail(f'{quoted(name)} {refusal}')
+        if (is_site_file(name) or name in SHARED) and not mode.startswith('100'):
+            fail(f'{quoted(name)} was committed as a link or a folder: who did it types git rm')
+        if is_site_file(name) and size > MOST_BYTES:
+            fail(f'{quoted(name)} has more than {MOST_BYTES} bytes, which figgroup does not read')
+
+
+def keeps_lines(before, behind):
+    """Refuses where a site file of one commit is not the beginning of that file in the other."""
+    for _, _, name in sharing.listed(before):
+        if is_site_file(name) and not sharing.shown(behind, name).startswith(sharing.shown(before, name)):
+            fail(f'others deleted or changed lines of {quoted(name)}, so nothing was pulled: docs/ACCIDENTS.md; '
+                 f'git diff HEAD...FETCH_HEAD -- {quoted(name)} shows it')
+
+
+def overwrites_none(tree):
+    """Refuses new files where there is one already, in any folder. Git overwrites those that it leaves out."""
+    top = sharing.answer('rev-parse', '--show-toplevel')
+    for name in asked('diff', '--name-only', '--no-renames', '--diff-filter=A', '-z', 'HEAD', tree).split(b'\0')[:-1]:
+        if os.path.lexists(os.path.join(top, os.fsdecode(name))):
+            fail(f'{quoted(os.fsdecode(name))} of others would overwrite yours, so nothing was pulled: move it away')
+
+
+def merge():
+    """Merges what was fetched, where it takes nothing from this copy. That is asked before any file changes."""
+    stays_apart('FETCH_HEAD', OTHERS)
+    base = sharing.answer('merge-base', 'HEAD', 'FETCH_HEAD')
+    if base:  # two who began at once have no commit in common
+        keeps_lines(base, 'FETCH_HEAD')
+    status, wrote, _ = git('merge-tree', '--write-tree', '--allow-unrelated-histories', '--name-only', '--no-messages',
+                           '-z', 'HEAD', 'FETCH_HEAD')
+    if status not in (0, 1):
+        fail('git could not try the merge, for which it has to be of version 2.38 or later')
+    tree, *conflicts = map(os.fsdecode, wrote.split(b'\0')[:-1])
+    if conflicts and conflicts[0]:
+        prefix = sharing.answer('rev-parse', '--show-prefix')
+        if conflicts[0].startswith(f'{prefix}site-') and is_site_file(conflicts[0].removeprefix(prefix)):
+            fail('two copies wrote to one file, so nothing was pulled: docs/ACCIDENTS.md')
+        fail(f"git can't merge {quoted(conflicts[0])}, so nothing was pulled: "
+             'git merge FETCH_HEAD, and settle it there')
+    stays_apart(tree, OTHERS)
+    keeps_lines('HEAD', tree)
+    overwrites_none(tree)
+    status, _, said = git('merge', '-q', '--no-edit', '--allow-unrelated-histories', 'FETCH_HEAD')
+    if status:
+        git('merge', '--abort')
+        raise Failure(*lines_of(said), 'draw: nothing was pulled, for the reason above')
+
+
+def fetch():
+    branch = sharing.answer('branch', '--show-current')
+    status, _, said = git('ls-remote', '--exit-code', '--heads', 'origin', branch)
+    if status == 2:
+        fail(f'nobody pushed to the branch {branch} yet')
+    if status == 0:
+        status, _, said = git('fetch', '-q', 'origin', branch)
+    if status:
+        raise Failure(*lines_of(said))
+
+
+def pull():
+    """Fetches what others pushed. Answers what came, and what is to be settled."""
+    file = commit_own()
+    fetch()
+    before = sharing.answer('rev-parse', '-q', '--verify', 'HEAD')
+    file.lock()
+    merge()
+    file.unlock()
+    came = []
+    for entry in asked('diff', '--numstat', '-z', before, 'HEAD', '--', *site_files(), *SHARED).split(b'\0')[:-1]:
+        new, _, name = entry.split(b'\t', 2)
+        came.append(f'draw: {new.decode().replace("-", "something")} new in {os.fsdecode(name)}')
+    if sharing.answer('rev-parse', 'HEAD') == before:
+        came.append('draw: nothing new')
+    return came + sharing.deleted(), settling.Unsettled(lines(), file.site).told()
+
+
+def word_pull():
+    came, unsettled = pull()
+    for line in came + unsettled:
+        write(line)
+
+
+def word_push():
+    file = commit_own()
+    status, _, said = git('push', '-q', '-u', 'origin', 'HEAD')
+    if status and (b'fetch first' in said or b'non-fast-forward' in said):
+        fail('others pushed since your last pull: draw pull, then draw push')
+    if status:
+        raise Failure(*lines_of(said), 'draw: nothing was pushed, for the reason above')
+    write(f'draw: pushed {file.name}')
+
+
+def word_status():
+    number = site()
+    if number:
+        write(f'draw: this copy is of site {number}')
+    if os.path.exists('drawing.fig'):
+        write('draw: drawing.fig is not taken yet')
+    unsettled = settling.Unsettled(lines(), number)
+    for line in unsettled.others + unsettled.told() + sharing.deleted() or ['draw: all is settled']:
+        write(line)
+    if sharing.in_git():
+        tell_unpushed(number)
+
+
+def tell_unpushed(number):
+    """What git knows of the files of the drawing: which are to be pushed, and which others' files were changed here."""
+    branch, *changed = lines_of(asked('status', '--short', '--branch', '--', *site_files(), *SHARED))
+    own_file = f'site-{number}.jsonl'
+    mine = [line for line in changed if line.rpartition('/')[2].split(' ')[-1] in (own_file, *SHARED)]
+    is_behind = '...' not in branch or 'ahead ' in branch
+    if number and (mine or is_behind) and sharing.answer('remote'):
+        write(f'draw: {own_file} is to be pushed: draw push')
+    if 'behind ' in branch:
+        write('draw: others pushed: draw pull')
+    for line in changed:
+        if line not in mine:
+            write(line)
