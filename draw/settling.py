@@ -186,7 +186,7 @@ def keep_of(unsettled, trouble, of):
         if trouble.shown and trouble.changes:  # what is hidden of it stays hidden
             return [keep(unsettled.site, trouble.object, [])]
         if unsettled.entry(trouble):
-            tell(f'{ids.name(trouble.object)} stays: it has no versions in conflict')
+            tell(f'{ids.name(trouble.object)} stays hidden: draw restore shows it, draw delete agrees')
         return []
     conflict = unsettled.conflict(trouble)
     site = of(unsettled, conflict)

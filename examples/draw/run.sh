@@ -282,6 +282,7 @@ echo '{"site":2,"do":"set","object":[1,6],"set":"place","to":[1,1],"aim":[[2,1]]
 cat ../site-*.jsonl ../commands | figgroup edit --site 2 2> /dev/null | sed 's/"id":\[2,2\]/"id":[2,7]/' > /dev/null
 cp ../ann.jsonl site-1.jsonl
 say "draw status"
+say "draw keep --theirs"
 say "draw restore 1.1"
 say "draw delete house"
 say "draw status"
