@@ -45,10 +45,8 @@ def word_anew(place):
     os.makedirs(place)
     file = os.path.join(place, 'site-1.jsonl')
     storing.put(file, new)
-    write(f'draw: {file} has this picture, in {new.count(LINE_END)} operations; go on there: draw site N')
-
-
-LINE_END = b'\n'
+    count = len(new.splitlines())
+    write(f'draw: {file} has this picture, in {count} operations; go on there: draw site N')
 
 
 def imported(site, drawing, lines):
@@ -66,7 +64,7 @@ def word_bring(file):
     if not os.path.isfile(file):
         fail(f'there is no file {file}')
     with own.Work() as work:
-        text, told, groups = make_plain(folder.content(file))
+        text, told, groups = make_plain(folder.whole(file))
         for line in told:
             say(line)
         new, said = imported(work.site, text, work.lines)

@@ -27,7 +27,7 @@ def word_window():
         edit(work, written)
         work.own.lock()
         work.lines = folder.lines()
-        take(work, folder.content('drawing.fig'))
+        take(work, folder.whole('drawing.fig'))
 
 
 def ask(work):
@@ -96,7 +96,7 @@ def word_plain():
     with own.Work(with_drawing=True) as work:
         if not os.path.exists('drawing.fig'):
             fail('no drawing was refused')
-        text, told, _ = make_plain(folder.content('drawing.fig'))
+        text, told, _ = make_plain(folder.whole('drawing.fig'))
         for line in told:
             say(line)
         take(work, text)
