@@ -1,4 +1,5 @@
 """The words of draw: which form each has, as its help says, and which module does it."""
+import importlib
 import os
 import sys
 
@@ -45,7 +46,7 @@ def done(word, arguments):
         folder.refuse_links()
         if not folder.site_files() and word not in WITHOUT_LINES:
             fail('no file site-1.jsonl to site-8.jsonl is here: draw site N begins one')
-        getattr(__import__(MODULES[word]), f'word_{word or "window"}')(*arguments)
+        getattr(importlib.import_module(MODULES[word]), f'word_{word or "window"}')(*arguments)
         return 0
     except Failure as failure:
         for line in failure.lines:
