@@ -66,19 +66,24 @@ def edit(work, written):
 def take(work, drawing):
     """Takes a drawing, of which compounds alone are broken up. One that is refused stays."""
     try:
-        made = work.make('take', drawing)
+        made = make(work, drawing)
+    except Failure as failure:
+        raise stays(failure)
+    work.add(*made)
+    own.forget_drawing()
+
+
+def make(work, drawing):
+    try:
+        return work.make('take', drawing)
     except Failure as failure:
         compounds = list(map(COMPOUND.fullmatch, failure.lines))
         if not compounds or not all(compounds):
-            raise stays(failure)
-        for compound in compounds:
-            tell(f'the {compound[1]} is broken up')
-        try:
-            made = work.make('take', make_plain(drawing)[0])
-        except Failure as failure:
-            raise stays(failure)
-    work.add(*made)
-    own.forget_drawing()
+            raise
+    made = work.make('take', make_plain(drawing)[0])
+    for compound in compounds:
+        tell(f'the {compound[1]} is broken up')
+    return made
 
 
 def stays(failure):

@@ -17,6 +17,7 @@ MODULES = {
 }
 HELP = ('help', '--help', '-h')
 WITHOUT_LINES = ('site', 'page', 'bring')  # words for a folder without any operation lines
+LEAST, MOST = 10, 3600  # seconds between two pulls of a watch
 
 
 def main(document, typed):
@@ -32,7 +33,7 @@ def main(document, typed):
     if word not in MODULES or typed == ['']:
         say(f'draw: there is no word {word}: draw help has all')
         return 2
-    forms = [line for line in help if line[len('draw '):].split(' ', 1)[0] == word or not word and line[5] == ' ']
+    forms = [line for line in help if line.split(' ', 2)[1] == word]
     if not any(fits(form, word, arguments) for form in forms):
         say('draw: it is typed so, where OBJECT is 1.6, 1.6-1.13 or a name, and OPERATION 1.6:')
         for form in forms:
@@ -78,10 +79,14 @@ def fits_all(kinds, arguments):
             return kind.startswith('[')
         repeats, kind = kind.rstrip(']').endswith('..'), kind.strip('[]').removesuffix('..')
         last = len(arguments) if repeats else at + 1
-        if not all(KINDS.get(kind, kind.__eq__)(argument) for argument in arguments[at:last]):
+        if not all(is_of(kind, argument) for argument in arguments[at:last]):
             return False
         at = last
     return at == len(arguments)
+
+
+def is_of(kind, word):
+    return KINDS[kind](word) if kind in KINDS else word == kind
 
 
 def fits_page(arguments):
@@ -112,11 +117,11 @@ KINDS = {
     'OBJECT': is_object,
     'OPERATION': lambda word: ids.read_id(word) is not None,
     'NAME': names.is_name,
-    'DESIGNER': bool,
+    'DESIGNER': lambda word: word[:1] not in ('', '-'),
     'ATTRIBUTE': lambda word: word in ('place', 'points', 'size', 'colour', 'layer', 'shown'),
     'VALUE': bool,
     'FILE': lambda word: word.endswith(('.png', '.pdf', '.svg')),
     'FILE.fig': lambda word: word.endswith('.fig'),
     'FOLDER': lambda word: word[:1] not in ('', '-'),
-    'SECONDS': lambda word: is_number(word, 4) and 10 <= int(word) <= 3600,
+    'SECONDS': lambda word: is_number(word, 4) and LEAST <= int(word) <= MOST,
 }
