@@ -23,6 +23,8 @@ LEAST, MOST = 10, 3600  # seconds between two pulls of a watch
 def main(document, typed):
     """Does a word, and answers the status of the program."""
     os.environ['LC_ALL'] = 'C'  # what other programs tell is looked at
+    if sys.stdout:
+        sys.stdout.reconfigure(errors='replace')  # a terminal may not have the letters of a name
     beside = os.path.dirname(os.path.realpath(sys.argv[0]))
     os.environ['PATH'] = os.environ.get('PATH', os.defpath) + ':' + beside
     help = [line.removeprefix('  ') for line in document.split('\n') if line.startswith('  draw ')]
