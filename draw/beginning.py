@@ -3,7 +3,6 @@ import os
 
 import designers
 import folder
-import ids
 import names
 import naming
 import operations
@@ -13,7 +12,7 @@ import sharing
 import storing
 from calls import figgroup
 from plain import make_plain
-from telling import Failure, fail, lines_of, say, tell, write
+from telling import Failure, fail, lines_of, say, write
 
 
 def word_site(number, name=None):
@@ -32,7 +31,7 @@ def word_site(number, name=None):
     sharing.exclude('site', 'drawing.*')
     if name is not None:
         with own.alone():
-            naming.replace_line('designers', f'{number} {name}')
+            naming.replace_lines('designers', [f'{number} {name}'])
 
 
 def word_anew(place):
@@ -45,10 +44,8 @@ def word_anew(place):
     os.makedirs(place)
     file = os.path.join(place, 'site-1.jsonl')
     storing.put(file, new)
-    write(f'draw: {file} has this picture, in {new.count(LINE_END)} operations; go on there: draw site N')
-
-
-LINE_END = b'\n'
+    count = len(new.splitlines())
+    write(f'draw: {file} has this picture, in {count} operations; go on there: draw site N')
 
 
 def imported(site, drawing, lines):
@@ -66,7 +63,7 @@ def word_bring(file):
     if not os.path.isfile(file):
         fail(f'there is no file {file}')
     with own.Work() as work:
-        text, told, groups = make_plain(folder.content(file))
+        text, told, groups = make_plain(folder.whole(file))
         for line in told:
             say(line)
         new, said = imported(work.site, text, work.lines)
@@ -81,7 +78,7 @@ def word_bring(file):
 
 def give_names(groups, made):
     """Names for figures that were one object. Import creates them in their order, so from this come their ids."""
-    created = sorted(made)
+    created, lines = sorted(made), []
     known = set(names.Names().objects)
     for line in groups:
         name, first, last = line.split()
@@ -89,5 +86,8 @@ def give_names(groups, made):
         if len(objects) > 1 and names.is_name(name):
             free = next(each for each in [name, *(f'{name[:34]}-{n}' for n in range(2, 10001))] if each not in known)
             known.add(free)
-            naming.replace_line('names', ' '.join([free, *ids.ranges(objects)]))
-            tell(f'{free} is {" ".join(ids.ranges(objects))}')
+            lines.append(naming.line_of(free, objects))
+    if lines:
+        naming.replace_lines('names', lines)
+    for line in lines:
+        write(line)

@@ -34,6 +34,14 @@ def content(name, most=MOST_BYTES):
         return file.read(most + 1)
 
 
+def whole(name):
+    """The bytes of a file of which no part may be missing."""
+    text = content(name)
+    if len(text) > MOST_BYTES:
+        fail(f'{quoted(name)} has more than {MOST_BYTES} bytes, which figgroup does not read')
+    return text
+
+
 def lines():
     """All operation lines; the last one of a file may lack its end."""
     found, length = [], 0

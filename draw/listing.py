@@ -30,8 +30,8 @@ def figures(text):
         words = line.split()
         if line.startswith('0 '):
             colours[words[1]] = 'colour ' + words[2][1:]
-        elif line.startswith('# figgroup with ') or is_name(words):
-            if is_name(words):
+        elif line.startswith('# figgroup with ') or names_figure(words):
+            if names_figure(words):
                 object, apart = ids.read_id(words[2]), ''
             apart += ''.join(' ' + word for word in apart_of(words, not apart))
         elif line.startswith('1 '):
@@ -44,7 +44,7 @@ def figures(text):
             yield object, apart, polyline(kind, words, colours.get(number))
 
 
-def is_name(words):
+def names_figure(words):
     return words[:2] == ['#', 'figgroup'] and len(words) > 2 and ids.read_id(words[2]) is not None
 
 

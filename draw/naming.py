@@ -26,14 +26,20 @@ def word_name(name=None, *words):
     if len(members) > ids.LAST:
         fail(f'a name has at most {ids.LAST} objects')
     with own.alone():
-        replace_line('names', ' '.join([name, *ids.ranges(members)]))
+        replace_lines('names', [line_of(name, members)])
 
 
-def replace_line(file, line):
-    """Puts a line into a file in place of all that begin with the same word."""
+def line_of(name, members):
+    return ' '.join([name, *ids.ranges(members)])
+
+
+def replace_lines(file, lines):
+    """Puts lines into a file in place of all that begin with the same words."""
     text = folder.content(file, names.MOST_BYTES) if os.path.isfile(file) else b''
-    kept = [old for old in text.splitlines() if old.split()[:1] != line.encode().split()[:1]]
-    new = b''.join(each + b'\n' for each in [*kept, line.encode()])
+    lines = [line.encode() for line in lines]
+    begins = [line.split()[0] for line in lines]
+    kept = [old for old in text.splitlines() if old.strip() and old.split()[0] not in begins]
+    new = b''.join(line + b'\n' for line in kept + lines)
     if max(len(text), len(new)) > names.MOST_BYTES:
         fail(f'{file} would have more than {names.MOST_BYTES} bytes: take lines out')
     storing.put(file, new)

@@ -56,10 +56,7 @@ class OwnFile:
         self.held.close()
 
     def text(self):
-        text = folder.content(self.name)
-        if len(text) > folder.MOST_BYTES:
-            fail(f'{self.name} has more than {folder.MOST_BYTES} bytes, which figgroup does not read')
-        return text
+        return folder.whole(self.name)
 
     def last(self):
         """The id of the last operation; number 0 where there is none."""

@@ -23,10 +23,12 @@ def commit_own():
     sharing.keep_committed(file.name)
     sharing.merge_by_lines(*SHARED)
     names = [file.name, *filter(os.path.exists, SHARED)]
-    asked('add', '--', *names)
-    if git('diff', '--cached', '--quiet', '--', *names)[0]:
-        asked('commit', '-q', '-m', f'site {file.site}: up to {ids.name(file.last())}', '--', *names)
-    file.unlock()
+    try:
+        asked('add', '--', *names)
+        if git('diff', '--cached', '--quiet', '--', *names)[0]:
+            asked('commit', '-q', '-m', f'site {file.site}: up to {ids.name(file.last())}', '--', *names)
+    finally:
+        file.unlock()
     stays_apart('HEAD', 'is committed here, and would overwrite that of others: git rm --cached it, and commit that')
     return file
 
@@ -109,8 +111,10 @@ def pull():
     fetch()
     before = sharing.answer('rev-parse', '-q', '--verify', 'HEAD')
     file.lock()
-    merge()
-    file.unlock()
+    try:
+        merge()
+    finally:
+        file.unlock()
     came = []
     for entry in asked('diff', '--numstat', '-z', before, 'HEAD', '--', *site_files(), *SHARED).split(b'\0')[:-1]:
         new, _, name = entry.split(b'\t', 2)

@@ -4,19 +4,18 @@ import os
 from calls import git, is_there
 from telling import fail, quoted
 
-LINES = b'\n'
-
 
 def in_git():
     """Whether git looks after this folder."""
-    return is_there('git') and git('rev-parse', '--is-inside-work-tree')[1] == b'true\n' and \
-        git('check-ignore', '-q', '.')[0] != 0
+    if not is_there('git') or answer('rev-parse', '--is-inside-work-tree') != 'true':
+        return False
+    return git('check-ignore', '-q', '.')[0] != 0
 
 
 def answer(*words):
     """What git answers, one line, or nothing where it refuses."""
     status, wrote, _ = git(*words)
-    return os.fsdecode(wrote.removesuffix(LINES)) if status == 0 else ''
+    return os.fsdecode(wrote.removesuffix(b'\n')) if status == 0 else ''
 
 
 def exclude(*names):
@@ -36,8 +35,8 @@ def add_patterns(file, lines):
     os.makedirs(os.path.dirname(path), exist_ok=True)
     with open(path, 'a+b') as patterns:
         patterns.seek(0)
-        there = patterns.read().split(LINES)
-        patterns.write(b''.join(os.fsencode(line) + LINES for line in lines if os.fsencode(line) not in there))
+        there = patterns.read().split(b'\n')
+        patterns.write(b''.join(line + b'\n' for line in map(os.fsencode, lines) if line not in there))
 
 
 def merge_by_lines(*names):
@@ -89,11 +88,11 @@ def blame(name):
     status, wrote, _ = git('blame', '--line-porcelain', '--', name) if is_there('git') else (1, b'', b'')
     if status:
         with open(name, 'rb') as file:
-            for line in file.read().split(LINES):
+            for line in file.read().split(b'\n'):
                 yield line, None
         return
     who = time = zone = ''
-    for line in wrote.split(LINES):
+    for line in wrote.split(b'\n'):
         if line.startswith(b'author '):
             who = line[7:].decode(errors='replace').replace('\t', ' ')
         elif line.startswith(b'author-time '):

@@ -3,7 +3,7 @@ import folder
 import ids
 import names
 import own
-from listing import figures, is_name
+from listing import figures, names_figure
 from telling import fail
 
 
@@ -32,7 +32,7 @@ def shifted(text, wanted, dx, dy, copies):
     found, chosen, head = [], False, ''
     for line in text.splitlines():
         words = line.split()
-        if is_name(words):
+        if names_figure(words):
             chosen = ids.read_id(words[2]) in wanted
         if not chosen or line.startswith('#'):
             found.append(line)

@@ -6,8 +6,6 @@ import pulling
 from folder import site
 from telling import Failure, fail, write
 
-LEAST, MOST = 10, 3600  # seconds between two pulls
-
 
 def word_watch(option='--every', seconds='60'):
     if site() is None:

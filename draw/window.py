@@ -27,7 +27,7 @@ def word_window():
         edit(work, written)
         work.own.lock()
         work.lines = folder.lines()
-        take(work, folder.content('drawing.fig'))
+        take(work, folder.whole('drawing.fig'))
 
 
 def ask(work):
@@ -66,19 +66,24 @@ def edit(work, written):
 def take(work, drawing):
     """Takes a drawing, of which compounds alone are broken up. One that is refused stays."""
     try:
-        made = work.make('take', drawing)
+        made = make(work, drawing)
+    except Failure as failure:
+        raise stays(failure)
+    work.add(*made)
+    own.forget_drawing()
+
+
+def make(work, drawing):
+    try:
+        return work.make('take', drawing)
     except Failure as failure:
         compounds = list(map(COMPOUND.fullmatch, failure.lines))
         if not compounds or not all(compounds):
-            raise stays(failure)
-        for compound in compounds:
-            tell(f'the {compound[1]} is broken up')
-        try:
-            made = work.make('take', make_plain(drawing)[0])
-        except Failure as failure:
-            raise stays(failure)
-    work.add(*made)
-    own.forget_drawing()
+            raise
+    made = work.make('take', make_plain(drawing)[0])
+    for compound in compounds:
+        tell(f'the {compound[1]} is broken up')
+    return made
 
 
 def stays(failure):
@@ -96,7 +101,7 @@ def word_plain():
     with own.Work(with_drawing=True) as work:
         if not os.path.exists('drawing.fig'):
             fail('no drawing was refused')
-        text, told, _ = make_plain(folder.content('drawing.fig'))
+        text, told, _ = make_plain(folder.whole('drawing.fig'))
         for line in told:
             say(line)
         take(work, text)

@@ -1,4 +1,5 @@
 """The words of draw: which form each has, as its help says, and which module does it."""
+import importlib
 import os
 import sys
 
@@ -16,11 +17,14 @@ MODULES = {
 }
 HELP = ('help', '--help', '-h')
 WITHOUT_LINES = ('site', 'page', 'bring')  # words for a folder without any operation lines
+LEAST, MOST = 10, 3600  # seconds between two pulls of a watch
 
 
 def main(document, typed):
     """Does a word, and answers the status of the program."""
     os.environ['LC_ALL'] = 'C'  # what other programs tell is looked at
+    if sys.stdout:
+        sys.stdout.reconfigure(errors='replace')  # a terminal may not have the letters of a name
     beside = os.path.dirname(os.path.realpath(sys.argv[0]))
     os.environ['PATH'] = os.environ.get('PATH', os.defpath) + ':' + beside
     help = [line.removeprefix('  ') for line in document.split('\n') if line.startswith('  draw ')]
@@ -31,7 +35,7 @@ def main(document, typed):
     if word not in MODULES or typed == ['']:
         say(f'draw: there is no word {word}: draw help has all')
         return 2
-    forms = [line for line in help if line[len('draw '):].split(' ', 1)[0] == word or not word and line[5] == ' ']
+    forms = [line for line in help if line.split(' ', 2)[1] == word]
     if not any(fits(form, word, arguments) for form in forms):
         say('draw: it is typed so, where OBJECT is 1.6, 1.6-1.13 or a name, and OPERATION 1.6:')
         for form in forms:
@@ -45,7 +49,7 @@ def done(word, arguments):
         folder.refuse_links()
         if not folder.site_files() and word not in WITHOUT_LINES:
             fail('no file site-1.jsonl to site-8.jsonl is here: draw site N begins one')
-        getattr(__import__(MODULES[word]), f'word_{word or "window"}')(*arguments)
+        getattr(importlib.import_module(MODULES[word]), f'word_{word or "window"}')(*arguments)
         return 0
     except Failure as failure:
         for line in failure.lines:
@@ -77,10 +81,14 @@ def fits_all(kinds, arguments):
             return kind.startswith('[')
         repeats, kind = kind.rstrip(']').endswith('..'), kind.strip('[]').removesuffix('..')
         last = len(arguments) if repeats else at + 1
-        if not all(KINDS.get(kind, kind.__eq__)(argument) for argument in arguments[at:last]):
+        if not all(is_of(kind, argument) for argument in arguments[at:last]):
             return False
         at = last
     return at == len(arguments)
+
+
+def is_of(kind, word):
+    return KINDS[kind](word) if kind in KINDS else word == kind
 
 
 def fits_page(arguments):
@@ -111,11 +119,11 @@ KINDS = {
     'OBJECT': is_object,
     'OPERATION': lambda word: ids.read_id(word) is not None,
     'NAME': names.is_name,
-    'DESIGNER': bool,
+    'DESIGNER': lambda word: word[:1] not in ('', '-'),
     'ATTRIBUTE': lambda word: word in ('place', 'points', 'size', 'colour', 'layer', 'shown'),
     'VALUE': bool,
     'FILE': lambda word: word.endswith(('.png', '.pdf', '.svg')),
     'FILE.fig': lambda word: word.endswith('.fig'),
     'FOLDER': lambda word: word[:1] not in ('', '-'),
-    'SECONDS': lambda word: is_number(word, 4) and 10 <= int(word) <= 3600,
+    'SECONDS': lambda word: is_number(word, 4) and LEAST <= int(word) <= MOST,
 }

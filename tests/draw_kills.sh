@@ -75,8 +75,8 @@ kill_word() {
     setsid bash -c "$(declare -f type_word); folder='$folder' objects='$objects' type_word $1" > ../said 2>&1 &
     pid=$!
     if [ $((turn / 2 % 2)) = 0 ]; then
-        until [ -e drawing.part-site-2.jsonl ] || ! kill -0 "$pid" 2> /dev/null; do sleep 0.002; done
-        set -- "$1" $(($2 % 120))
+        until [ -e drawing.part-site-2.jsonl ] || ! kill -0 "$pid" 2> /dev/null; do sleep 0.001; done
+        set -- "$1" $(($2 % 20))
     fi
     sleep "$(awk -v ms="$2" 'BEGIN { print ms / 1000 }')"
     { if [ $((turn % 2)) = 0 ]; then kill -9 -- "-$pid"; else kill -9 "$pid"; fi; } 2> /dev/null || true

@@ -135,6 +135,8 @@ draw site 3
 say "draw bring stall.fig"
 say "draw bring stall.png"
 say "bring $root/examples/plain/old.fig"
+head -c 17000000 /dev/zero | tr '\0' ' ' > long.fig
+say "draw bring long.fig"
 say "bring house.fig"
 say "draw list"
 say "draw undo"
