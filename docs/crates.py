@@ -25,11 +25,10 @@ def made():
     lines = []
     for line in (ROOT / 'crates.txt').read_text().splitlines():
         if line.startswith('# '):
-            heading = line[2:]
-            lines += ['', f'| {heading[0].upper()}{heading[1:]} | |', '|---|---|']
+            lines += ['', f'{line[2].upper()}{line[3:]}:', '']
         elif ':' in line:
             crate = line.partition(':')[0]
-            lines.append(f'| `{crate}` | {sentence(crate)} |')
+            lines.append(f'- `{crate}`: {sentence(crate)}')
     return '\n'.join([*lines, '', ''])
 
 
