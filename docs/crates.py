@@ -1,11 +1,12 @@
 #!/usr/bin/env python3
 """Puts the list of crates into docs/ARCHITECTURE.md: of each crate the first sentence of its src/lib.rt or src/main.rt.
 
-Order and headings are those of crates.txt. With --check nothing is written, and the status is 1 where the list is not the
-one that would be made."""
+Order and headings are those of crates.txt. With --check nothing is written, and the status is 1 where the list is not
+the one that would be made."""
 
 import re
 import sys
+import textwrap
 from pathlib import Path
 
 ROOT = Path(__file__).resolve().parent.parent
@@ -28,7 +29,8 @@ def made():
             lines += ['', f'{line[2].upper()}{line[3:]}:', '']
         elif ':' in line:
             crate = line.partition(':')[0]
-            lines.append(f'- `{crate}`: {sentence(crate)}')
+            text = f'- `{crate}`: {sentence(crate)}'
+            lines.append(textwrap.fill(text, 100, subsequent_indent='  ', break_on_hyphens=False))
     return '\n'.join([*lines, '', ''])
 
 

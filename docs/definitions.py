@@ -8,6 +8,7 @@ that no public clause cites it, and the clause of a public function rests on it.
 
 import re
 import sys
+import textwrap
 from dataclasses import dataclass, field
 from pathlib import Path
 
@@ -33,9 +34,10 @@ COMMANDS = {
 PRIVATE = "No public clause cites this module."
 HEAD = """# Definitions
 
-What has to be believed for a claim: all else is proved. `docs/definitions.py` makes this page from the contracts and the
-specs. Each definition that the whole contract of a command rests on, refusals too, stands in one of these files. Where no
-source is named, the choice is this project's.
+What has to be believed for a claim: all else is proved. `docs/definitions.py` makes this page from
+the contracts and the specs. Each definition that the whole contract of a command rests on, refusals
+too, stands in one of these files. [Laws](CLAIMS.md#laws-each-named-by-its-claim) name some more, in
+`specs/` of their crates. Where no source is named, the choice is this project's.
 
 | command | letter | definitions | their lines |
 |---|---|---|---|
@@ -43,8 +45,8 @@ source is named, the choice is this project's.
 
 ## What `fig` rests on
 
-Each file stands in `specs/` of its crate. Behind its name are the letters of the commands that rest on it. Where only some
-of its definitions count for `fig`, these are named.
+Each file stands in `specs/` of its crate. Behind its name are the letters of the commands that rest
+on it. Where only some of its definitions count for `fig`, these are named.
 
 {fig}
 
@@ -64,10 +66,11 @@ They also speak of definitions of the language's own libraries: {kit}.
 
 ## Sources
 
-- C. Sun, D. Chen: Consistency maintenance in real-time collaborative graphics editing systems. ACM Transactions on
-  Computer-Human Interaction 9(1), 2002: concurrent operations, conflicts, versions as maximal compatible groups.
-- K. Birman, A. Schiper, P. Stephenson: Lightweight causal and atomic group multicast. ACM Transactions on Computer
-  Systems 9(3), 1991: when an operation is ready.
+- C. Sun, D. Chen: Consistency maintenance in real-time collaborative graphics editing systems. ACM
+  Transactions on Computer-Human Interaction 9(1), 2002: concurrent operations, conflicts, versions
+  as maximal compatible groups.
+- K. Birman, A. Schiper, P. Stephenson: Lightweight causal and atomic group multicast. ACM
+  Transactions on Computer Systems 9(3), 1991: when an operation is ready.
 - FIG 3.2: Xfig, FIG Format 3.2; Netpbm, ppm(5); RFC 8259 (JSON), as serde_json reads it.
 
 Worked examples that the logic computes stand in `crates/test_definitions/specs/`.
@@ -242,9 +245,14 @@ def read_all():
     return {f"{file.crate}.{file.module}": file for file in map(read, paths)}
 
 
-def by_crate(lines):
+def item(text):
+    """An item of a list, in lines of the page."""
+    return textwrap.fill(f"- {text}", 100, subsequent_indent="  ", break_long_words=False, break_on_hyphens=False)
+
+
+def by_crate(files):
     """Lists of files, each under the name of its crate."""
-    return "\n\n".join("\n".join([f"`{crate}`", "", *listed]) for crate, listed in lines.items())
+    return "\n\n".join("\n".join([f"`{crate}`", "", *map(item, texts)]) for crate, texts in files.items())
 
 
 def page(files):
@@ -268,10 +276,10 @@ def page(files):
         place = file.module.replace(".", "/")
         if own:
             named = f" {file.named(own)}" if own != set(file.definitions) else ""
-            fig.setdefault(file.crate, []).append(f"- `{place}` ({letters(at, counted)}): {file.sentence()}{named}")
+            fig.setdefault(file.crate, []).append(f"`{place}` ({letters(at, counted)}): {file.sentence()}{named}")
         if more := counted - own:
             meaning = file.named(more) if own else file.sentence()
-            added.setdefault(file.crate, []).append(f"- `{place}` ({letters(at, more)}): {meaning}")
+            added.setdefault(file.crate, []).append(f"`{place}` ({letters(at, more)}): {meaning}")
     types, kit = {}, {}
     for module, name in every - {it for it in every if it[0] in files}:
         crate = module.split(".")[0]
@@ -279,7 +287,7 @@ def page(files):
             types.setdefault(crate, set()).add(type_of(module, name))
         else:
             kit.setdefault(crate, set()).add(name)
-    listed = [f"- `{crate}`: {', '.join(f'`{it}`' for it in sorted(types[crate]))}" for crate in order if crate in types]
+    listed = [item(f"`{it}`: {', '.join(f'`{name}`' for name in sorted(types[it]))}") for it in order if it in types]
     return HEAD.format(
         counts="\n".join([*counts, f"| all | | {count(every)} |"]), fig=by_crate(fig), added=by_crate(added),
         types="\n".join(listed), kit=", ".join(f"{len(kit[it])} of {it}" for it in sorted(kit)),

@@ -1,8 +1,8 @@
 #!/usr/bin/env python3
 """Says which links of the pages lead nowhere: to a file that is not there, or to a heading that its page has not.
 
-Read are README.md, docs/*.md and examples/*/README.md. Links into the web are left alone. With --check or without, nothing
-is written, and the status is 1 where a link is told."""
+Read are README.md, docs/*.md and examples/*/README.md. Links into the web are left alone. With --check or without,
+nothing is written, and the status is 1 where a link is told."""
 
 import re
 import sys
