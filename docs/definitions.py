@@ -134,7 +134,8 @@ class File:
         source = re.sub(r", ACM TOC(HI|S) [^,]*, \d+", "", source)
         source = "; ".join(part for part in re.split(r"; |, over ", source) if "this project's" not in part)
         whole = f"{meaning}{f' ({source})' if source else ''}{more or '.'}"
-        return re.sub(r"Xfig(,|'s) FIG Format 3\.2", "FIG 3.2", whole)
+        short = re.sub(r"Xfig(,|'s) FIG Format 3\.2", "FIG 3.2", whole)
+        return re.sub(r" by serde_json's (value|compact text)", "", short)
 
     def named(self, counted):
         """Those of its definitions that count."""

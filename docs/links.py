@@ -20,13 +20,21 @@ def prose(page):
 
 def anchors(page):
     """The anchors of the headings of a page, as GitHub makes them: one that comes again gets a number."""
-    found = []
+    found, plain = [], []
     for heading in re.findall(r'(?m)^#+ (.*)$', prose(page)):
-        plain = re.sub(r'\]\([^)]*\)', '', heading).lower()
-        anchor = re.sub(r'[^\w\- ]', '', plain).strip().replace(' ', '-')
-        before = sum(1 for it in found if re.fullmatch(rf'{re.escape(anchor)}(-\d+)?', it))
-        found.append(f'{anchor}-{before}' if before else anchor)
+        words = re.sub(r'\]\([^)]*\)', '', heading).lower()
+        anchor = re.sub(r'[^\w\- ]', '', words).strip().replace(' ', '-')
+        found.append(f'{anchor}-{plain.count(anchor)}' if anchor in plain else anchor)
+        plain.append(anchor)
     return found
+
+
+def links(page):
+    """The links of a page but those into the web, each with its line."""
+    text = prose(page)
+    for found in LINK.finditer(re.sub(r'`[^`\n]*`', lambda code: ' ' * len(code[0]), text)):
+        if not re.match(r'https?:|mailto:', found[1]):
+            yield text.count('\n', 0, found.start()) + 1, found[1]
 
 
 def fault(page, link):
@@ -41,16 +49,10 @@ def fault(page, link):
 
 
 def main():
-    told = []
-    for page in PAGES:
-        text = prose(page)
-        for found in LINK.finditer(re.sub(r'`[^`\n]*`', lambda code: ' ' * len(code[0]), text)):
-            link = found[1]
-            if re.match(r'https?:|mailto:', link):
-                continue
-            if why := fault(page, link):
-                line = text.count('\n', 0, found.start()) + 1
-                told.append(f'{page.relative_to(ROOT)}:{line}: {link}: {why}')
+    told = [
+        f'{page.relative_to(ROOT)}:{line}: {link}: {why}'
+        for page in PAGES for line, link in links(page) if (why := fault(page, link))
+    ]
     sys.exit('\n'.join(told) or 0)
 
 
