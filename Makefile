@@ -13,14 +13,16 @@ version = $(shell bin/figgroup --version | cut -d ' ' -f 2)+$(shell git log -1 -
 
 install:
 	./prove --check
-	install -d $(at)/bin $(at)/share/figgroup/page/web $(at)/share/figgroup/draw $(at)/share/doc/figgroup
+	install -d $(at)/bin $(at)/share/figgroup/page/web $(at)/share/figgroup/draw $(at)/share/doc/figgroup/docs/pictures
 	install bin/figgroup bin/draw $(at)/bin
 	install -m 644 share/figgroup/* $(at)/share/figgroup
 	install -m 644 page/*.py $(at)/share/figgroup/page
 	install -m 644 draw/*.py $(at)/share/figgroup/draw
 	/usr/bin/python3 -m compileall -q -s '$(DESTDIR)' --invalidation-mode unchecked-hash $(at)/share/figgroup/draw $(at)/share/figgroup/page
 	install -m 644 page/web/* $(at)/share/figgroup/page/web
-	install -m 644 README.md bin/figgroup.sum docs/*.md $(at)/share/doc/figgroup
+	install -m 644 README.md bin/figgroup.sum $(at)/share/doc/figgroup
+	install -m 644 docs/*.md $(at)/share/doc/figgroup/docs
+	install -m 644 docs/pictures/*.svg docs/pictures/*.png $(at)/share/doc/figgroup/docs/pictures
 	install -d $(at)/share/man/man1 $(at)/share/bash-completion/completions
 	install -m 644 share/man/* $(at)/share/man/man1
 	install -m 644 share/bash-completion/figgroup $(at)/share/bash-completion/completions

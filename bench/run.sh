@@ -1,6 +1,6 @@
 #!/bin/sh
-# Measures all of figgroup and prints one table; its rows stand in bench/table.py. It takes at most
-# five minutes, and wants four processors that do nothing else.
+# Measures all of figgroup and prints one table, as in bench/results.txt; its rows stand in bench/table.py. It takes at
+# most five minutes, and wants four processors that do nothing else.
 set -eu
 root=$(cd "$(dirname "$0")/.." && pwd)
 for words in "bench_lines" "bench_fig scan"; do

@@ -8,6 +8,7 @@ that no public clause cites it, and the clause of a public function rests on it.
 
 import re
 import sys
+import textwrap
 from dataclasses import dataclass, field
 from pathlib import Path
 
@@ -33,20 +34,31 @@ COMMANDS = {
 PRIVATE = "No public clause cites this module."
 HEAD = """# Definitions
 
-Made by `docs/definitions.py` from the contracts and the specs. A claim is as good as the definitions that it names: all
-else is proved. Each definition that the whole contract of a command rests on, refusals too, stands here, file by file,
-with the commands: {letters}.
-Where no source is named, the choice is this project's.
+What has to be believed for a claim: all else is proved. `docs/definitions.py` makes this page from
+the contracts and the specs. Each definition that the whole contract of a command rests on, refusals
+too, stands in one of these files. [Laws](CLAIMS.md#laws-each-named-by-its-claim) name some more, in
+`specs/` of their crates. Where no source is named, the choice is this project's.
 
-| command | definitions | their lines |
-|---|---|---|
+| command | letter | definitions | their lines |
+|---|---|---|---|
 {counts}
 
-| file | what it defines | its definitions that count | for |
-|---|---|---|---|
-{rows}
+## What `fig` rests on
 
-The types of the code that these speak of, each declared with a comment for each part, by crate:
+Each file stands in `specs/` of its crate. Behind its name are the letters of the commands that rest
+on it. Where only some of its definitions count for `fig`, these are named.
+
+{fig}
+
+## What other commands add
+
+Of a file that stands above, the definitions are named that come to those of `fig`.
+
+{added}
+
+## Types, and the language's own libraries
+
+The types of the code that these speak of, each declared with a comment for each part:
 
 {types}
 
@@ -54,11 +66,12 @@ They also speak of definitions of the language's own libraries: {kit}.
 
 ## Sources
 
-- C. Sun, D. Chen: Consistency maintenance in real-time collaborative graphics editing systems. ACM Transactions on
-  Computer-Human Interaction 9(1), 2002: concurrent operations, conflicts, versions as maximal compatible groups.
-- K. Birman, A. Schiper, P. Stephenson: Lightweight causal and atomic group multicast. ACM Transactions on Computer
-  Systems 9(3), 1991: when an operation is ready.
-- Xfig, FIG Format 3.2; Netpbm, ppm(5); RFC 8259 (JSON), as serde_json reads it.
+- C. Sun, D. Chen: Consistency maintenance in real-time collaborative graphics editing systems. ACM
+  Transactions on Computer-Human Interaction 9(1), 2002: concurrent operations, conflicts, versions
+  as maximal compatible groups.
+- K. Birman, A. Schiper, P. Stephenson: Lightweight causal and atomic group multicast. ACM
+  Transactions on Computer Systems 9(3), 1991: when an operation is ready.
+- FIG 3.2: Xfig, FIG Format 3.2; Netpbm, ppm(5); RFC 8259 (JSON), as serde_json reads it.
 
 Worked examples that the logic computes stand in `crates/test_definitions/specs/`.
 """
@@ -114,14 +127,19 @@ class File:
     imports: dict
     definitions: dict = field(default_factory=dict)
 
-    def row(self, counted, letters):
+    def sentence(self):
+        """What the file defines, with its public source."""
         found = re.fullmatch(r"(.*?)\s*\(([^()]*(?:\([^()]*\)[^()]*)*)\)\.(.*)", self.head)
         meaning, source, more = found.groups() if found else (self.head.rstrip("."), "", "")
         source = re.sub(r", ACM TOC(HI|S) [^,]*, \d+", "", source)
         source = "; ".join(part for part in re.split(r"; |, over ", source) if "this project's" not in part)
-        names = " ".join(f"`{name}`" for name in self.definitions if name in counted)
-        path = f"`{self.crate}/specs/{self.module.replace('.', '/')}`"
-        return f"| {path} | {meaning}{f' ({source})' if source else ''}{more} | {names} | {letters} |"
+        whole = f"{meaning}{f' ({source})' if source else ''}{more or '.'}"
+        short = re.sub(r"Xfig(,|'s) FIG Format 3\.2", "FIG 3.2", whole)
+        return re.sub(r" by serde_json's (value|compact text)", "", short)
+
+    def named(self, counted):
+        """Those of its definitions that count."""
+        return " ".join(f"`{name}`" for name in self.definitions if name in counted)
 
 
 def read(path):
@@ -228,6 +246,16 @@ def read_all():
     return {f"{file.crate}.{file.module}": file for file in map(read, paths)}
 
 
+def item(text):
+    """An item of a list, in lines of the page."""
+    return textwrap.fill(f"- {text}", 100, subsequent_indent="  ", break_long_words=False, break_on_hyphens=False)
+
+
+def by_crate(files):
+    """Lists of files, each under the name of its crate."""
+    return "\n\n".join("\n".join([f"`{crate}`", "", *map(item, texts)]) for crate, texts in files.items())
+
+
 def page(files):
     order = [line.split(":")[0] for line in (ROOT / "crates.txt").read_text().splitlines() if ":" in line]
     found = {letter: rests_on(files, places) for letter, (_, places) in COMMANDS.items()}
@@ -237,23 +265,33 @@ def page(files):
         own = [files[module].definitions[name] for module, name in believed if module in files]
         return f"{len(own):,} | {sum(it.text.count(chr(10)) for it in own):,}"
 
-    counts = [f"| {name} | {count(found[letter])} |" for letter, (name, _) in COMMANDS.items()]
-    rows, types, kit = [], {}, set()
+    def letters(at, names):
+        return "".join(it for it in COMMANDS if any((at, name) in found[it] for name in names))
+
+    counts = [f"| {name} | {letter} | {count(found[letter])} |" for letter, (name, _) in COMMANDS.items()]
+    fig, added = {}, {}
     for at in sorted(files, key=lambda at: (order.index(files[at].crate), at)):
-        letters = "".join(it for it in COMMANDS if any(module == at for module, _ in found[it]))
-        if letters:
-            rows.append(files[at].row({name for module, name in every if module == at}, letters))
+        file = files[at]
+        counted = {name for module, name in every if module == at}
+        own = {name for name in counted if (at, name) in found["f"]}
+        place = file.module.replace(".", "/")
+        if own:
+            named = f" {file.named(own)}" if own != set(file.definitions) else ""
+            fig.setdefault(file.crate, []).append(f"`{place}` ({letters(at, counted)}): {file.sentence()}{named}")
+        if more := counted - own:
+            meaning = file.named(more) if own else file.sentence()
+            added.setdefault(file.crate, []).append(f"`{place}` ({letters(at, more)}): {meaning}")
+    types, kit = {}, {}
     for module, name in every - {it for it in every if it[0] in files}:
         crate = module.split(".")[0]
         if crate in order:
             types.setdefault(crate, set()).add(type_of(module, name))
         else:
-            kit.add(f"{crate} {name}")
-    listed = [f"- `{crate}`: {', '.join(f'`{it}`' for it in sorted(types[crate]))}" for crate in order if crate in types]
+            kit.setdefault(crate, set()).add(name)
+    listed = [item(f"`{it}`: {', '.join(f'`{name}`' for name in sorted(types[it]))}") for it in order if it in types]
     return HEAD.format(
-        letters=", ".join(f"{letter} {name}" for letter, (name, _) in COMMANDS.items()),
-        counts="\n".join([*counts, f"| all | {count(every)} |"]), rows="\n".join(rows), types="\n".join(listed),
-        kit=", ".join(f"`{it}`" for it in sorted(kit)),
+        counts="\n".join([*counts, f"| all | | {count(every)} |"]), fig=by_crate(fig), added=by_crate(added),
+        types="\n".join(listed), kit=", ".join(f"{len(kit[it])} of {it}" for it in sorted(kit)),
     )
 
 

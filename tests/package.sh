@@ -27,4 +27,8 @@ for page in figgroup draw; do
     cmp "$folder/root/usr/share/man/man1/$page.1" "$root/share/man/$page.1"
     cmp "$folder/root/usr/share/bash-completion/completions/$page" "$root/share/bash-completion/figgroup"
 done
+# The pages stand as the README links to them, and as messages of draw name them.
+for page in docs/FAULTS.md docs/pictures/way.svg; do
+    cmp "$folder/root/usr/share/doc/figgroup/$page" "$root/$page"
+done
 echo "package: draws"

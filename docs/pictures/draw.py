@@ -95,6 +95,26 @@ def way():
     return picture
 
 
+def take():
+    """The way back, from a text that was changed to operation lines."""
+    picture = Picture(900, 250)
+    picture.box(20, 30, 140, 60, "operation lines", "a file a site")
+    picture.box(20, 160, 140, 60, "named text", "changed in xfig")
+    picture.box(260, 20, 170, 80, "base", "gf_take, gf_site", "what the text knew")
+    picture.box(260, 150, 170, 80, "figures and names", "gf_fig_read", "gf_fig_named")
+    picture.box(530, 80, 130, 80, "changes", "gf_changes", "proposed")
+    picture.box(750, 80, 130, 80, "new lines", "gf_json", "one site's own")
+    picture.arrow(160, 60, 260, 60, "base_site")
+    picture.arrow(160, 190, 260, 190, "read_fig")
+    picture.arrow(90, 160, 90, 92, "", FAINT, dash="4 3")
+    picture.text(97, 130, "knows", 11, FAINT, "start", "monospace")
+    picture.arrow(430, 60, 530, 105)
+    picture.arrow(430, 190, 530, 135)
+    picture.arrow(660, 120, 750, 120, "take")
+    picture.text(705, 140, "checked", 11, FAINT, family="monospace")
+    return picture
+
+
 def causal():
     """Three sites in causal order, with one conflict."""
     picture = Picture(760, 250)
@@ -179,7 +199,7 @@ def session():
 
 
 def main():
-    for draw in (way, causal, conflicts, row, session):
+    for draw in (way, take, causal, conflicts, row, session):
         path, made = FOLDER / f"{draw.__name__}.svg", draw().svg()
         if "--check" not in sys.argv:
             path.write_text(made)
