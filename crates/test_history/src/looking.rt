@@ -2,6 +2,7 @@
 
 use gf_groups::GroupFault;
 use gf_inspect::{VersionName, lines, top_at, top_at_with, top_line, versions, versions_with};
+use gf_json::Notation;
 use gf_ops::ObjectId;
 use gf_shape::Point;
 use gf_site::Site;
@@ -30,7 +31,7 @@ fn told(alloc: Global, versions: Result<Vec<Version>, GroupFault>) -> Option<Str
 
 /// The line of one version, or how many lines there are.
 fn lines_of(alloc: Global, versions: &[Version]) -> Option<String> {
-    let text = String::from_utf8(lines(alloc, versions).ok()?).ok()?;
+    let text = String::from_utf8(lines(alloc, Notation::Words, versions).ok()?).ok()?;
     match text.lines().count() {
         1 => String::from_str(alloc, text.trim()).ok(),
         count => format!(in alloc; "{count} lines").ok(),
@@ -52,6 +53,11 @@ pub(crate) fn plain_top(alloc: Global, site: &Site, text: &str) -> Option<String
 }
 
 fn line_of(alloc: Global, point: Point, name: Option<VersionName>) -> Option<String> {
-    let text = String::from_utf8(top_line(alloc, point, name.as_ref()).ok()?).ok()?;
+    let text = String::from_utf8(top_line(
+        alloc,
+        Notation::Words,
+        point,
+        name.as_ref(),
+    ).ok()?).ok()?;
     String::from_str(alloc, text.trim()).ok()
 }
