@@ -56,7 +56,7 @@ def keeps_lines(before, behind):
     """Refuses where a site file of one commit is not the beginning of that file in the other."""
     for _, _, name in sharing.listed(before):
         if is_site_file(name) and not sharing.shown(behind, name).startswith(sharing.shown(before, name)):
-            fail(f'others deleted or changed lines of {quoted(name)}, so nothing was pulled: docs/ACCIDENTS.md; '
+            fail(f'others deleted or changed lines of {quoted(name)}, so nothing was pulled: docs/FAULTS.md; '
                  f'git diff HEAD...FETCH_HEAD -- {quoted(name)} shows it')
 
 
@@ -82,7 +82,7 @@ def merge():
     if conflicts and conflicts[0]:
         prefix = sharing.answer('rev-parse', '--show-prefix')
         if conflicts[0].startswith(f'{prefix}site-') and is_site_file(conflicts[0].removeprefix(prefix)):
-            fail('two copies wrote to one file, so nothing was pulled: docs/ACCIDENTS.md')
+            fail('two copies wrote to one file, so nothing was pulled: docs/FAULTS.md')
         fail(f"git can't merge {quoted(conflicts[0])}, so nothing was pulled: "
              'git merge FETCH_HEAD, and settle it there')
     stays_apart(tree, OTHERS)

@@ -7,8 +7,8 @@
 # with these. Each picture that the file pictures names, with its lines and its window, is painted anew and compared.
 # What an import makes of house.fig is compared with imported.jsonl; what plain.awk makes and tells of a drawing, by each
 # awk, with NAME.plain.fig, NAME.txt and NAME.groups, and what site 2 takes of it, beside the lines of the example named,
-# with NAME.jsonl. Random drawings are changed and taken, others made plain. Last README, the guide to imports, the
-# tutorial and by-git are typed, and the scripts of draw and week are run.
+# with NAME.jsonl. Random drawings are changed and taken, others made plain. Last README, DRAWING, CONFLICTS, FORMATS and
+# by-git are typed, and the scripts of draw and week are run.
 set -eu
 examples=$(cd "$(dirname "$0")" && pwd)
 root=$(dirname "$examples")
@@ -291,8 +291,9 @@ for folder in "$examples"/xfig/*/; do
     compare_taken "${folder%/}"
 done
 compare "README" /dev/null python3 "$examples/transcript.py" "$root/README.md" "$root"
-compare "importing" /dev/null python3 "$examples/transcript.py" "$root/docs/IMPORTING.md" "$root"
-compare "tutorial" /dev/null python3 "$examples/transcript.py" "$root/docs/TUTORIAL.md" "$root"
+for page in DRAWING CONFLICTS FORMATS; do
+    compare "$page" /dev/null python3 "$examples/transcript.py" "$root/docs/$page.md" "$root"
+done
 if command -v git > /dev/null; then
     compare "by-git" /dev/null env GIT_CONFIG_GLOBAL=/dev/null GIT_CONFIG_NOSYSTEM=1 \
         FIG_EDITOR="cp '$examples/by-git/saved/site-'\$(cat site).fig" \

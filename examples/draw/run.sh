@@ -34,10 +34,10 @@ figgroup() {
 export -f draw figgroup
 export root
 
-# The commands behind a heading of docs/ACCIDENTS.md.
+# The commands behind a heading of docs/FAULTS.md.
 way_out() {
     awk -v heading="$1" '/^#/ { here = $0 == heading } /^```/ { inside = !inside; next } here && inside' \
-        "$root/docs/ACCIDENTS.md"
+        "$root/docs/FAULTS.md"
 }
 
 # A folder with a house and a fir that stands at two places.
@@ -661,8 +661,8 @@ say "draw set 1.10 colour ff0000"
 (cd ../ann && draw set 1.5 colour 000000 2> /dev/null && draw push > /dev/null)
 say "draw pull 2>&1 | grep ^draw"
 say "git status --short"
-# The way out as docs/ACCIDENTS.md has it, to a number that is free here.
-way_out "## One number used twice" | sed 's/new=2/new=3/' > ../way
+# The way out as docs/FAULTS.md has it, to a number that is free here.
+way_out "### One number used twice" | sed 's/new=2/new=3/' > ../way
 say "sh ../way"
 say "cat site-3.jsonl"
 say "draw status"
@@ -708,7 +708,7 @@ say "draw pull"
 fay "rm site-4.jsonl"
 say "draw pull"
 say "cmp ../mine site-4.jsonl"
-# The way out as docs/ACCIDENTS.md has it.
+# The way out as docs/FAULTS.md has it.
 way_out "### Lines that others deleted" > ../way
 say "sh ../way 2> /dev/null | grep -v '^CONFLICT\|^Automatic merge'"
 say "draw pull"

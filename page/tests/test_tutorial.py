@@ -1,5 +1,5 @@
 #!/usr/bin/python3
-"""The day of docs/TUTORIAL.md by the page, begun by the words of the README: a house, one fir at two places, offline."""
+"""The day of docs/DRAWING.md by the page, begun by the words of the README: a house, one fir at two places, offline."""
 import os
 import pathlib
 import signal
