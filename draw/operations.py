@@ -3,7 +3,7 @@ import json
 
 import explaining
 from folder import over_lines
-from telling import Failure, lines_of
+from telling import Failure
 
 ATTRIBUTES = ('place', 'points', 'size', 'colour', 'layer')
 
@@ -63,23 +63,37 @@ def is_within(id, past):
 class Version:
     """What figgroup tells of a version: its operations, its attributes in words, and whether it is shown."""
 
-    def __init__(self, line):
-        head, _, rest = line.partition('] ')
-        self.operations = {tuple(map(int, id.split('.'))) for id in head.partition('[')[2].split()}
-        self.shown = rest.endswith(' shown')
-        self.values, words = {}, rest.split()
-        for at, word in enumerate(words):
-            if word in ATTRIBUTES:
-                self.values[word] = ' '.join(words[at + 1:at + (3 if word in ('place', 'size') else 2)])
-        points = rest.partition(' points ')[2].partition(' colour ')[0]
-        if points:
-            self.values['points'] = points
+    def __init__(self, told):
+        self.object = tuple(told['object'])
+        self.operations = set(map(tuple, told['operations']))
+        self.shown = told['shown']
+        self.values = {attribute: in_words(told[attribute]) for attribute in ATTRIBUTES if attribute in told}
+
+
+def in_words(value):
+    """A value as it is typed: a pair as `10 20`, points as `0,0 9,0 0,9`."""
+    if not isinstance(value, list):
+        return str(value)
+    return ' '.join(','.join(map(str, each)) if isinstance(each, list) else str(each) for each in value)
 
 
 def versions(lines, object):
     """The versions of an object, the topmost first."""
-    wrote = over_lines('inspect', '--object', '%d.%d' % object, read=lines)
-    return [Version(line) for line in lines_of(wrote)]
+    return [Version(told) for told in told_of('inspect', '--object', '%d.%d' % object, lines=lines)]
+
+
+def several(lines):
+    """The versions of each object that has several, by the object; of one with more than 1,000 there are none."""
+    found = {}
+    for told in told_of('inspect', '--object', 'several', lines=lines):
+        if 'operations' in told:
+            found.setdefault(tuple(told['object']), []).append(Version(told))
+    return found
+
+
+def told_of(*words, lines):
+    """What figgroup tells of lines as JSON."""
+    return map(json.loads, over_lines(*words, '--json', read=lines).splitlines())
 
 
 def change(site, object, attribute, value, **more):

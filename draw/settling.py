@@ -5,47 +5,38 @@ import names
 import operations
 import own
 from conflict import Conflict
-from folder import over_lines
-from telling import fail, lines_of, tell, write
+from telling import fail, tell, write
 
 MOST_SHOWN = 1000  # versions of a drawing
-MOST_OBJECTS = 200  # of which is told what is to be settled; the others come when these are settled
-MOST_BYTES = 200_000_000  # that are read to tell it, all lines for each object
+MOST_VERSIONS = 20_000  # of all objects with several, with which is told who gave which value
+ONE_BY_ONE = 'draw list {}', 'draw keep {} OPERATION..'
 
 
 class Trouble:
-    """What `figgroup status` tells of an object."""
+    """What is open of an object."""
 
-    def __init__(self, object):
-        self.object, self.attributes, self.shown = object, [], 0
-        self.hidings, self.changes = [], []
+    def __init__(self, told):
+        self.object, self.shown, self.versions = tuple(told['object']), told['shown'], told['versions']
+        self.attributes = [difference['attribute'] for difference in told['differences']]
+        self.changes = list(map(tuple, told['unseen']))
+        self.hidings = list(map(tuple, told['hidings']))
 
     def is_open(self):
-        return self.attributes or self.hidings or self.changes or self.shown > MOST_SHOWN
-
-    def add(self, words):
-        if words[0] == 'has':
-            count = words[words.index('versions,') + 1]
-            self.shown = int(count) if count.isdecimal() else MOST_SHOWN + 1
-        elif words[0] == 'hidden' and words[1] == 'by':
-            self.hidings = list(map(ids.read_id, words[2::2]))
-        elif words[0] == 'hidden,':
-            self.changes = list(map(ids.read_id, words[3:]))
-        else:
-            self.attributes.append(words[0])
+        return self.attributes or len(self.hidings) > 1 or self.changes or self.shown > MOST_SHOWN
 
 
 def status(lines):
-    """The lines of figgroup's status that stand for themselves, and what it tells of each object."""
-    others, found = [], {}
-    for line in lines_of(over_lines('status', read=lines)):
-        words = line.split()
-        if words[0] == 'object':
-            object = ids.read_id(words[1])
-            found.setdefault(object, Trouble(object)).add(words[2:])
-        elif words[0] != 'site':
-            others.append(line)
-    return others, [trouble for trouble in found.values() if trouble.is_open()]
+    """What waits, what is told of each object, and whether more is shown than a drawing has."""
+    waiting, objects, shown = [], [], 0
+    for told in operations.told_of('status', lines=lines):
+        if 'operation' in told:
+            waiting.append(f'operation {ids.name(told["operation"])} waits for {ids.name(told["waits_for"])}')
+        elif 'object' in told:
+            objects.append(Trouble(told))
+        elif 'clean' in told:
+            shown = told['shown']
+    many = [f'drawing has more than {MOST_SHOWN} versions shown'] if shown > MOST_SHOWN else []
+    return waiting + many, objects
 
 
 class Entry:
@@ -61,21 +52,23 @@ class Unsettled:
 
     def __init__(self, lines, site):
         self.lines, self.site = lines, site
-        self.others, self.troubles = status(lines)
-        self.most = min(MOST_OBJECTS, 1 + MOST_BYTES // (len(lines) + 1))
+        self.others, objects = status(lines)
+        self.troubles = [trouble for trouble in objects if trouble.is_open()]
         self.all = operations.read(lines) if self.troubles else {}
+        are_few = sum(trouble.versions for trouble in objects if 1 < trouble.versions) <= MOST_VERSIONS
+        self.versions = operations.several(lines) if self.troubles and are_few else {}
         self.hidings = [operation for operation in self.all.values() if operation.value('shown') is False]
         self.names = designers.Designers()
 
     def conflict(self, trouble):
-        return Conflict(trouble, operations.versions(self.lines, trouble.object), self.all)
+        """The versions in conflict, or None where there are too many to tell them."""
+        versions = self.versions.get(trouble.object)
+        return Conflict(trouble, versions, self.all) if versions else None
 
     def entry(self, trouble):
         """What is told of an object, or None where all agree."""
         if trouble.attributes:
-            conflict = self.conflict(trouble)
-            one, several = (conflict.text(self.names, apart) for apart in (False, True))
-            return Entry(one, several, self.ways(conflict))
+            return self.of_conflict(trouble)
         if trouble.changes:
             return self.of_hidden(trouble)
         if trouble.shown > MOST_SHOWN:
@@ -85,6 +78,14 @@ class Unsettled:
             text = f'hidden by {self.people(trouble.hidings)}, each another version'
             return Entry(text, text, ('draw restore {}', 'draw delete {}'))
         return None
+
+    def of_conflict(self, trouble):
+        conflict = self.conflict(trouble)
+        if not conflict:
+            text = f'{", ".join(trouble.attributes)}: {trouble.shown} versions'
+            return Entry(text, text, ONE_BY_ONE)
+        one, several = (conflict.text(self.names, apart) for apart in (False, True))
+        return Entry(one, several, self.ways(conflict))
 
     def of_hidden(self, trouble):
         """What was changed while somebody else hid it."""
@@ -104,7 +105,7 @@ class Unsettled:
     def ways(self, conflict):
         sites = conflict.sites()
         if not all(conflict.kept(site) for site in sites) or len(sites) < 2:
-            return 'draw list {}', 'draw keep {} OPERATION..'
+            return ONE_BY_ONE
         if self.site in sites and len(sites) == 2:
             return 'draw keep --mine {}', 'draw keep --theirs {}'
         return tuple(f'draw keep --site {site} {{}}' for site in sites)
@@ -112,7 +113,7 @@ class Unsettled:
     def told(self):
         """What happened, and behind it the words that settle it."""
         entries = {}
-        for trouble in self.troubles[:self.most]:
+        for trouble in self.troubles:
             entry = self.entry(trouble)
             if entry:
                 entries.setdefault(entry.key, []).append((trouble.object, entry))
@@ -125,8 +126,6 @@ class Unsettled:
             label = ', '.join(known.labels(objects, there))
             told.append(f'{label} {entry.one if len(objects) == 1 else entry.several}')
             told.append('    ' + ', or '.join(way.format(words) for way in entry.ways))
-        if len(self.troubles) > self.most:
-            told.append(f'{len(self.troubles) - self.most} objects more are told when these are settled')
         return told
 
 
@@ -172,9 +171,7 @@ def keep_all(work, words, of):
         if object and object not in troubles:
             tell(f'{ids.name(object)} stays: it has no versions in conflict')
     open_ones = [troubles[object] for object in chosen if object in troubles]
-    commands = [command for trouble in open_ones[:unsettled.most] for command in keep_of(unsettled, trouble, of)]
-    if len(open_ones) > unsettled.most:
-        tell(f'{len(open_ones) - unsettled.most} objects more stay: give the word again')
+    commands = [command for trouble in open_ones for command in keep_of(unsettled, trouble, of)]
     if not commands:
         tell('nothing was settled' if troubles else 'all is settled')
     return commands
@@ -189,6 +186,9 @@ def keep_of(unsettled, trouble, of):
             tell(f'{ids.name(trouble.object)} stays hidden: draw restore shows it, draw delete agrees')
         return []
     conflict = unsettled.conflict(trouble)
+    if not conflict:
+        tell(f'{ids.name(trouble.object)} stays: there are too many versions to tell whose they are')
+        return []
     site = of(unsettled, conflict)
     kept = conflict.kept(site)
     if kept:

@@ -6,6 +6,7 @@ use crate::examples::{BOX, RED_BOX_MADE, TWO_COLOURS, are_groups, are_told, is_t
 use crate::trial::{Came, Marks};
 use gf_groups::{Group, GroupFault, is_made};
 use gf_inspect::VersionName;
+use gf_json::Notation;
 use gf_ops::{Change, History, ObjectId, OpId, Value};
 use gf_shape::{AnyShape, Bounds, OutOfMemory, Shape};
 use gf_table::VersionedHistory;
@@ -182,7 +183,7 @@ fn is_settled(alloc: Global, answer: Result<Version, OutOfMemory>) -> bool {
     match answer {
         Ok(version) => {
             is_text(
-                gf_inspect::lines(alloc, std::slice::from_ref(&version)),
+                gf_inspect::lines(alloc, Notation::Words, std::slice::from_ref(&version)),
                 RED_VERSION,
             )
         }
@@ -260,7 +261,10 @@ version 1.1 [1.1 1.2] box place 0 0 size 10 10 colour 0000ff layer 0 shown
 
 fn are_versions(alloc: Global, answer: Result<Vec<Version>, GroupFault>) -> bool {
     match answer {
-        Ok(versions) => is_text(gf_inspect::lines(alloc, &versions), TWO_VERSIONS),
+        Ok(versions) => is_text(
+            gf_inspect::lines(alloc, Notation::Words, &versions),
+            TWO_VERSIONS,
+        ),
         Err(_) => false,
     }
 }
@@ -326,7 +330,7 @@ const TOP_LINE: &str = "top 10 10 is 1.1 [1.1 2.1]\n";
 fn is_green(alloc: Global, answer: Result<Option<VersionName>, OutOfMemory>) -> bool {
     match answer {
         Ok(name) => is_text(
-            gf_inspect::top_line(alloc, at(10, 10), name.as_ref()),
+            gf_inspect::top_line(alloc, Notation::Words, at(10, 10), name.as_ref()),
             TOP_LINE,
         ),
         Err(OutOfMemory) => false,
@@ -367,11 +371,11 @@ fn lines(alloc: Global, marks: &mut Marks) -> Option<Came> {
     let site = site(alloc, TWO_COLOURS)?;
     let versions = gf_inspect::versions(alloc, site.history(), ObjectId(BOX)).ok()?;
     marks.begin();
-    let first = gf_inspect::lines(alloc, &versions);
+    let first = gf_inspect::lines(alloc, Notation::Words, &versions);
     marks.end();
     Some(match first {
         Err(OutOfMemory) => {
-            let next = gf_inspect::lines(alloc, &versions);
+            let next = gf_inspect::lines(alloc, Notation::Words, &versions);
             Came::after_memory(true, is_text(next, TWO_VERSIONS))
         }
         first => Came::first(is_text(first, TWO_VERSIONS)),
@@ -382,11 +386,11 @@ fn top_line(alloc: Global, marks: &mut Marks) -> Option<Came> {
     let site = site(alloc, TWO_COLOURS)?;
     let name = gf_inspect::top_at(alloc, site.history(), at(10, 10)).ok()?;
     marks.begin();
-    let first = gf_inspect::top_line(alloc, at(10, 10), name.as_ref());
+    let first = gf_inspect::top_line(alloc, Notation::Words, at(10, 10), name.as_ref());
     marks.end();
     Some(match first {
         Err(OutOfMemory) => {
-            let next = gf_inspect::top_line(alloc, at(10, 10), name.as_ref());
+            let next = gf_inspect::top_line(alloc, Notation::Words, at(10, 10), name.as_ref());
             Came::after_memory(true, is_text(next, TOP_LINE))
         }
         first => Came::first(is_text(first, TOP_LINE)),
