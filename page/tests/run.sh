@@ -4,25 +4,12 @@
 #   page/tests/run.sh              all tests, two files at a time; SHOTS=FOLDER keeps screenshots there
 #   page/tests/run.sh --storm N    four pages and kills, N times
 #
-# What is missing is installed where apt-get can. Without a browser it says so, and fails where CI is set.
+# What is missing tests/tools.sh installs. Without a browser it says so, and fails where CI is set.
 set -euo pipefail
 cd "$(dirname "$0")"
 python=/usr/bin/python3
 logs=$(mktemp -d)
 trap 'rm -rf "$logs"' EXIT
-declare -A package=([chromium]=chromium [chromedriver]=chromium-driver [xfig]=xfig [Xvfb]=xvfb [xdotool]=xdotool [jq]=jq)
-
-install_missing() {
-    local missing=() name
-    for name in "${!package[@]}"; do command -v "$name" > /dev/null || missing+=("${package[$name]}"); done
-    for name in tornado selenium; do "$python" -c "import $name" 2> /dev/null || missing+=("python3-$name"); done
-    [ ${#missing[@]} -gt 0 ] || return 0
-    [ "$(id -u)" = 0 ] && command -v apt-get > /dev/null || { echo "page: missing: ${missing[*]}" >&2; return 0; }
-    echo "page: installs ${missing[*]}" >&2
-    { apt-get -q update && DEBIAN_FRONTEND=noninteractive apt-get -qy install --no-install-recommends "${missing[@]}"; } \
-        > "$logs/apt" 2>&1 || tail -n 3 "$logs/apt" >&2
-}
-
 can_test() {
     command -v chromium > /dev/null && command -v chromedriver > /dev/null &&
         "$python" -c 'import tornado, selenium' 2> /dev/null
@@ -54,7 +41,7 @@ storm() {
     [ "$failed" = 0 ]
 }
 
-install_missing
+../../tests/tools.sh
 if ! can_test; then
     echo "page: not tested"
     [ -z "${CI:-}" ]
