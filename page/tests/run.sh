@@ -10,6 +10,7 @@ cd "$(dirname "$0")"
 python=/usr/bin/python3
 logs=$(mktemp -d)
 trap 'rm -rf "$logs"' EXIT
+
 can_test() {
     command -v chromium > /dev/null && command -v chromedriver > /dev/null &&
         "$python" -c 'import tornado, selenium' 2> /dev/null
