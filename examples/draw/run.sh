@@ -811,8 +811,8 @@ say "draw set 1.1 layer 0"
 say "draw undo"
 say "draw push"
 cd ../ann
-say "(sleep 1; cd ../ben; draw set 1.1 colour ffffff; draw push) > /dev/null 2>&1 & timeout -s INT 16 draw watch --every 10; wait"
-say "flock site sh -c 'sleep 2; echo the word ends' & sleep 1; timeout -s INT 6 draw watch; wait"
+say "(sleep 5; cd ../ben; draw set 1.1 colour ffffff; draw push) > /dev/null 2>&1 & timeout -s INT 36 draw watch --every 15; wait"
+say "flock site sh -c 'sleep 2; echo the word ends' & sleep 1; timeout -s INT 15 draw watch; wait"
 say "draw watch --every 5"
 say "draw watch --every"
 
