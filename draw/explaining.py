@@ -26,7 +26,7 @@ def why(said, lines, behind=b'', site=None):
     missing = [match[1] for match in (re.search(r' waits for (.)', line) for line in found) if match]
     if missing:
         found.append(f'draw: fetch site-{missing[0]}.jsonl, whole')
-    return found + sharing.deleted()
+    return found + sharing.told_deleted()
 
 
 def of_command(given, number, fault, site):

@@ -5,6 +5,7 @@ import ids
 import own
 import settling
 import sharing
+import storing
 from calls import git
 from folder import MOST_BYTES, SHARED, is_site_file, lines, site, site_files
 from telling import Failure, fail, lines_of, quoted, write
@@ -105,9 +106,18 @@ def fetch():
         raise Failure(*lines_of(said))
 
 
+def bring_back():
+    """Brings back site files of others that were deleted here. Answers which."""
+    names = sharing.deleted()
+    for name in names:
+        storing.put(name, sharing.shown('HEAD', name))
+    return [f'draw: {quoted(name)} was deleted here, and is back' for name in names]
+
+
 def pull():
     """Fetches what others pushed. Answers what came, and what is to be settled."""
     file = commit_own()
+    came = bring_back()
     fetch()
     before = sharing.answer('rev-parse', '-q', '--verify', 'HEAD')
     file.lock()
@@ -115,13 +125,12 @@ def pull():
         merge()
     finally:
         file.unlock()
-    came = []
     for entry in asked('diff', '--numstat', '-z', before, 'HEAD', '--', *site_files(), *SHARED).split(b'\0')[:-1]:
         new, _, name = entry.split(b'\t', 2)
         came.append(f'draw: {new.decode().replace("-", "something")} new in {os.fsdecode(name)}')
     if sharing.answer('rev-parse', 'HEAD') == before:
         came.append('draw: nothing new')
-    return came + sharing.deleted(), settling.Unsettled(lines(), file.site).told()
+    return came, settling.Unsettled(lines(), file.site).told()
 
 
 def word_pull():
@@ -147,7 +156,7 @@ def word_status():
     if os.path.exists('drawing.fig'):
         write('draw: drawing.fig is not taken yet')
     unsettled = settling.Unsettled(lines(), number)
-    for line in unsettled.others + unsettled.told() + sharing.deleted() or ['draw: all is settled']:
+    for line in unsettled.others + unsettled.told() + sharing.told_deleted() or ['draw: all is settled']:
         write(line)
     if sharing.in_git():
         tell_unpushed(number)

@@ -70,12 +70,14 @@ def keep_committed(own):
 
 
 def deleted():
-    """Tells site files that are committed and were deleted here."""
-    if not in_git():
-        return []
-    names = [name for _, _, name in listed('HEAD') if name.startswith('site-') and name.endswith('.jsonl')]
-    return [f'draw: {quoted(name)} is deleted here: git checkout HEAD -- {quoted(name)} brings it back'
-            for name in names if not os.path.exists(name)]
+    """The site files that are committed and were deleted here."""
+    names = [name for _, _, name in listed('HEAD')] if in_git() else []
+    return [name for name in names
+            if name.startswith('site-') and name.endswith('.jsonl') and not os.path.lexists(name)]
+
+
+def told_deleted():
+    return [f'draw: {quoted(name)} is deleted here: draw pull brings it back' for name in deleted()]
 
 
 def author(name):

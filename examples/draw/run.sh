@@ -744,9 +744,9 @@ say "draw push"
 heading "deleted files"
 rm site-1.jsonl
 say "draw status | grep -v '^site\|waits'"
-say "draw pull"
 say "FIG_EDITOR='echo opened' draw"
-say "git checkout HEAD -- site-1.jsonl"
+say "draw pull"
+say "git status --short"
 say "draw pull"
 
 heading "a log of what others wrote"
