@@ -22,7 +22,7 @@ from helpers import FIGGROUP  # noqa: E402
 from histories import prepared  # noqa: E402
 
 PAUSE = .5  # seconds between the gestures of a client
-FIGURES, OPERATIONS = (10, 100, 1000), (1000, 10000, 79992)
+FIGURES, OPERATIONS = (10, 100, 1000), (1000, 10000, 79840)  # a site has room for 20 gestures
 
 
 def moved(text, nth):
