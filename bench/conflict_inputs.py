@@ -118,6 +118,7 @@ for name, count, chance in (("rare", 1_000, 0.001), ("often", 200, 0.02)):
 for count in (50, 100):
     write(folder, f"toggles_{8 * count}", heard(count, 0.05, "shown", lambda rng: rng.random() < 0.5))
 write(folder, "toggles_apart", changed(1_000, "shown", lambda rng: rng.random() < 0.5, True))
+write(folder, "places_apart", changed(9_875, "place", lambda rng: [rng.randrange(5_000), 0], True))
 write(folder, "hides_apart", changed(9_900, "shown", lambda rng: False, True))
 write(folder, "crossed", crossed(9_998))
 write(folder, "deep", deep(400))

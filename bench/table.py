@@ -149,6 +149,8 @@ def strange_rows(folder):
         ("toggles_400", "eight sites hide or show a box 50 times each, and hear of each other before one in twenty", 2, None),
         ("toggles_800", "the same 100 times", 10, None),
         ("toggles_apart", "the same 1,000 times, apart", 10, None),
+        ("places_apart", "eight sites move a box among 5,000 places 9,875 times each, apart", 5, 1),
+        ("hidden_aims", "eight sites change a box 2,000 times each, apart, and seven hide it each second time by an aim", 1, 0),
     ):
         yield Row(text, fig(folder, name, status=status), None, goal)
     status = Run([FIGGROUP, "status"], f"{folder}/hides_apart.jsonl")
@@ -160,6 +162,8 @@ def strange_rows(folder):
 def aim_rows(folder):
     yield Row("200 conflicts, each settled by an aim at one operation", fig(folder, "settled_200"), None, 0.1)
     yield Row("60 conflicts, each settled by an aim at a whole version", fig(folder, "whole_60"), None, 0.5)
+    for count, goal in ((200, 0.05), (400, 0.2)):
+        yield Row(f"{count} conflicts of a box, each settled by `keep`", fig(folder, f"kept_{count}"), None, goal)
     aimed, plain = fig(folder, "changed_aimed"), fig(folder, "changed_plain")
     yield Row("200 conflicts and 2,000 changes aimed at versions, beside changes without aims", aimed, plain)
     yield Row("2,104 changes aimed at 1,000 operations each, 16 MiB", fig(folder, "bomb"), None)

@@ -138,27 +138,45 @@ def causal():
 
 
 def conflicts():
-    """The conflict graph of one object, its components and its versions."""
-    picture = Picture(820, 265)
-    picture.text(160, 24, "operations and conflicts", 14)
-    picture.circle(60, 70, 22, "1.1")
-    picture.circle(60, 220, 22, "3.2")
-    for x, y, one, two, three in ((150, 70, "1.2", "2.1", "colour"), (150, 170, "2.2", "3.1", "place")):
-        picture.line(x + 22, y + 30, x + 88, y + 30, RED, 2)
-        picture.circle(x, y + 30, 22, one)
-        picture.circle(x + 110, y + 30, 22, two)
-        picture.text(x + 55, y + 22, three, 11, RED)
-    picture.text(60, 108, "creation", 11, FAINT)
-    picture.text(60, 258, "layer", 11, FAINT)
-    picture.arrow(310, 140, 370, 140)
-    picture.text(480, 24, "components", 14)
-    picture.box(390, 50, 180, 50, "free", "1.1  3.2")
-    picture.box(390, 120, 180, 50, "{1.2} or {2.1}", "colour")
-    picture.box(390, 190, 180, 50, "{2.2} or {3.1}", "place")
-    picture.arrow(590, 140, 640, 140)
-    picture.text(725, 24, "versions", 14)
-    for number, version in enumerate(("1.2 2.2", "1.2 3.1", "2.1 2.2", "2.1 3.1")):
-        picture.box(650, 45 + 52 * number, 150, 42, f"1.1 3.2 {version}")
+    """The operations of one object in classes, a step of growth with a parent and its cut, and what shows."""
+    picture = Picture(900, 330)
+    picture.text(165, 24, "operations, in their classes", 14)
+    for x1, y1, x2, y2 in ((165, 75, 75, 170), (165, 75, 255, 170), (165, 75, 165, 265), (165, 265, 75, 170), (165, 265, 255, 170)):
+        picture.line(x1, y1, x2, y2, RED, 2)
+    for x, y, width, words, operations in (
+        (100, 50, 130, "A", ("1.2", "1.3")), (30, 145, 90, "B", ("2.1",)), (120, 240, 90, "C", ("3.1",)),
+        (210, 145, 90, "D", ("1.4",)), (20, 50, 60, "", ("1.1",)),
+    ):
+        picture.shapes.append(f'<rect x="{x}" y="{y}" width="{width}" height="50" rx="6" fill="{FILL}" stroke="{INK}"/>')
+        if words:
+            picture.text(x + 16, y + 31, words, 15)
+        for number, operation in enumerate(operations):
+            picture.circle(x + width - 24 - 44 * number, y + 25, 19, operations[-1 - number], "white")
+    for x, y, words, colour in (
+        (50, 118, "creation", FAINT), (235, 72, "blue,", BLUE), (235, 88, "then blue", BLUE), (75, 212, "green", GREEN),
+        (165, 307, "yellow", "#b8860b"), (255, 212, "hides,", INK), (255, 228, "aimed at 2.1", INK),
+    ):
+        picture.text(x, y, words, 11, colour, "start" if x == 235 else "middle")
+    picture.text(20, 275, "a conflict", 11, RED, "start")
+    picture.line(20, 282, 72, 282, RED, 2)
+    picture.text(505, 24, "C is met", 14)
+    picture.text(790, 24, "D is met: the versions", 14)
+    for x, y, words, colour in (
+        (370, 70, "1.1  A", INK), (370, 150, "1.1  B", INK), (555, 70, "1.1  A", INK), (555, 150, "1.1  B", INK),
+        (555, 230, "1.1  C", GREEN), (735, 70, "1.1  A", INK), (735, 150, "1.1  B  D", INK), (735, 230, "1.1  C", INK),
+    ):
+        picture.box(x, y, 85, 36, words, colour=colour)
+    for y in (88, 168):
+        picture.arrow(455, y, 555, y, "stays")
+    picture.arrow(412, 106, 555, 240, "", GREEN)
+    picture.text(482, 222, "its cut", 11, GREEN, family="monospace")
+    picture.text(412, 62, "parent", 11, GREEN, family="monospace")
+    picture.text(412, 202, "no parent", 11, FAINT, family="monospace")
+    picture.arrow(640, 88, 735, 88, "stays")
+    picture.arrow(640, 168, 735, 168, "takes D up")
+    picture.arrow(640, 248, 735, 248, "stays")
+    for y, words, colour in ((92, "shows", GREEN), (172, "hidden", FAINT), (252, "shows", GREEN)):
+        picture.text(828, y, words, 12, colour, "start")
     return picture
 
 

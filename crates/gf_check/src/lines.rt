@@ -20,7 +20,7 @@ use gf_base::OutOfMemory;
 use gf_causal::OfferFault;
 use gf_edit::{Entry, read_entry};
 use gf_json::{LineError, read_op};
-use gf_ops::{History, Op, OpFault, OpId};
+use gf_ops::{Op, OpFault, OpId};
 use gf_replay::{LineCause, ReadingError};
 use gf_site::{Replica, Step};
 use gf_streams::TextLines;
@@ -29,7 +29,7 @@ use std::alloc::Global;
 /// What was read so far: a replica, the lines by id, the faults, and the number of commands.
 #[derive(Drop)]
 struct Check {
-    replica: Replica<History>,
+    replica: Replica,
     seen: Seen,
     telling: Telling,
     commands: u64,
@@ -124,7 +124,7 @@ fn take_entry(
 /// Receives an operation, and steps until nothing is ready.
 fn take_op(
     alloc: Global,
-    replica: &mut Replica<History>,
+    replica: &mut Replica,
     seen: &mut Seen,
     telling: &mut Telling,
     number: u64,
@@ -149,7 +149,7 @@ fn take_op(
 /// Steps until nothing is ready, and tells each operation that is dropped.
 fn step_all(
     alloc: Global,
-    replica: &mut Replica<History>,
+    replica: &mut Replica,
     seen: &Seen,
     telling: &mut Telling,
 ) -> Result<(), OutOfMemory>
@@ -208,7 +208,7 @@ fn tell_clash(
 /// Tells that an operation was dropped, if no line tells that drop with this cause.
 fn tell_drop(
     alloc: Global,
-    replica: &Replica<History>,
+    replica: &Replica,
     seen: &Seen,
     telling: &mut Telling,
     dropped: (OpId, OpFault),

@@ -26,7 +26,7 @@ use std::alloc::Global;
 /// The lines of the operations that the site makes of these commands, in order.
 pub(crate) fn make_all(
     alloc: Global,
-    site: &mut Site<History>,
+    site: &mut Site,
     commands: Vec<Numbered>,
 ) -> Result<Edited, EditError>
     ensures ok { IfOk result (HasPassed site.old.number site.old.ops commands.items site.new) }
@@ -46,7 +46,7 @@ pub(crate) fn make_all(
 /// one.
 fn pass(
     alloc: Global,
-    site: &mut Site<History>,
+    site: &mut Site,
     edited: &mut Edited,
     number: u64,
     command: EditCommand,
@@ -67,7 +67,7 @@ fn pass(
 /// Makes the operations that keep versions of an object, and appends their lines.
 fn keep_versions(
     alloc: Global,
-    site: &mut Site<History>,
+    site: &mut Site,
     edited: &mut Edited,
     number: u64,
     keep: &Keep,
@@ -95,7 +95,7 @@ fn keep_refusal(number: u64, fault: KeepFault) -> EditError
 /// Makes an operation of each of the changes in order, and appends their lines.
 fn author_each(
     alloc: Global,
-    site: &mut Site<History>,
+    site: &mut Site,
     edited: &mut Edited,
     number: u64,
     changes: Vec<Change>,
@@ -111,7 +111,7 @@ fn author_each(
 
 fn author(
     alloc: Global,
-    site: &mut Site<History>,
+    site: &mut Site,
     edited: &mut Edited,
     number: u64,
     change: Change,
@@ -157,7 +157,7 @@ pub fn push_line(alloc: Global, text: &mut Vec<u8>, op: &Op) -> Result<(), OutOf
 }
 
 /// Why an Await of this operation is refused, if it is.
-fn refusal(site: &Site<History>, id: OpId) -> Option<Cause>
+fn refusal(site: &Site, id: OpId) -> Option<Cause>
     ensures { AwaitAnswer site.now.number site.now.ops [] id result }
 {
     if !is_id(id) {

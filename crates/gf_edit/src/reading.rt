@@ -8,7 +8,6 @@ ghost use Rattle.gf_edit.specs.EntrySteps.{TakesEntry};
 
 use crate::entries::read_entry;
 use crate::{Entry, Numbered};
-use gf_ops::History;
 use gf_replay::{ReadingError, line_refusal, take_op};
 use gf_site::Replica;
 use gf_streams::TextLines;
@@ -17,7 +16,7 @@ use std::alloc::Global;
 /// What was read: a replica with the operations, and the commands in order.
 #[derive(Drop)]
 pub(crate) struct ReadLines {
-    pub(crate) replica: Replica<History>,
+    pub(crate) replica: Replica,
     pub(crate) commands: Vec<Numbered>,
 }
 

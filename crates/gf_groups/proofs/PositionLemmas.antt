@@ -1,13 +1,12 @@
 -- What stands at a position of a list, and the positions of the operations on an object.
-use Rattle.std.proofs.Common.{◌≡◌, ℕ, ◌<◌, ◌≤◌, Bool, true, List, [], length, refl, sym, arith}
+use Rattle.std.proofs.Common.{◌≡◌, ℕ, ◌<◌, ◌≤◌, Bool, true, List, [], length, sym, arith}
 use Rattle.std.proofs.Common.{Bor}
 use Rattle.std.specs.Prelude.{Option, Some, None, MatchOption, IfSome, Contains, ◌↔◌}
-use Rattle.std.specs.Prelude.{option_copied, slice_get}
+use Rattle.std.specs.Prelude.{slice_get}
 use Rattle.std.specs.List.{HoldsAt, range_with_len}
 use Rattle.std.specs.Ordering.{nat_cmp}
 use Rattle.std.proofs.lemmas.Cmp.{nat_cmp_total}
 use Rattle.std.proofs.lemmas.List.Kept.{IsStrictlySortedBy-filter}
-use Rattle.std.proofs.lemmas.Option.{slice_get_past, slice_get_read}
 use Rattle.gf_base.proofs.FilterLemmas.{Contains-filter}
 use Rattle.gf_base.proofs.ListLemmas.{not_Contains-nil}
 use Rattle.gf_base.proofs.RisingLemmas.{rising_front, rising_nil}
@@ -18,12 +17,6 @@ use Rattle.gf_ops.specs.declared.op.ObjectId.{ObjectId}
 use Rattle.gf_groups.specs.GroupedPositions.{is_on, positions_on}
 
 -- what `get` gives
-pub got_at : {X : Type 0} (xs : List X) (i : ℕ) (r : Option (Bor X))
-    → MatchOption r (length xs ≤ i) (λ x. (i < length xs) × HoldsAt (λ y. x.now ≡ y) xs i)
-    → option_copied r ≡ slice_get xs i
-got_at xs i (Some x) m = sym (slice_get_read xs (length xs) i x.now refl m.0 (m.1 x.now))
-got_at xs i None m = sym (slice_get_past xs i m)
-
 pub got_all : {X : Type 0} (P : X → Type 0) (xs : List X) (i : ℕ) (r : Option (Bor X))
     → ((x : X) → Contains xs x → P x)
     → MatchOption r (length xs ≤ i) (λ x. (i < length xs) × HoldsAt (λ y. x.now ≡ y) xs i)

@@ -3,8 +3,8 @@ use Rattle.std.proofs.Common.{◌≡◌, ℕ, false, List, [], ◌∷◌, inl, i
 use Rattle.std.specs.Prelude.{Contains, Some, slice_get}
 use Rattle.std.proofs.lemmas.Bool.{cases_Bool}
 use Rattle.gf_base.proofs.ListLemmas.{Contains-cons_cases, Contains-cons_head, not_Contains-nil}
-use Rattle.gf_maximal.specs.LargestSets.{IsLargest}
-use Rattle.gf_maximal.proofs.ExtendingLemmas.{IsExtended, extended}
+use Rattle.gf_maximal.proofs.FirstLemmas.{first_largest, first_over}
+use Rattle.gf_maximal.proofs.MaximalLemmas.{Within}
 use Rattle.gf_ops.specs.declared.op.Op.{Op}
 use Rattle.gf_ops.specs.declared.op.OpId.{OpId}
 use Rattle.gf_ops.specs.declared.change.Change.{Change}
@@ -21,6 +21,7 @@ use Rattle.gf_groups.specs.GroupedPositions.{positions_on, rising_ids}
 use Rattle.gf_groups.proofs.IdPositionLemmas.{Contains-rising_ids}
 use Rattle.gf_groups.proofs.LargestGroupLemmas.{conflict_at_test}
 use Rattle.gf_groups.proofs.OnPositionLemmas.{all_positions, on_to, position_of_op}
+use Rattle.gf_groups.proofs.PositionLemmas.{positions_on-rising}
 use Rattle.gf_groups.proofs.VersionLemmas.{in_from, in_to, version_of_largest}
 
 -- the object of an operation that founds it, or knows it, is made
@@ -54,36 +55,29 @@ module _ (h : List Op) (valid : IsValid h) (a : Op) (there : Contains h a) where
     | inr n ↦ absurd (not_Contains-nil i n)
   ]
 
-  -- what the position of a is extended to is a largest set of the positions on the object
-  largest : (k : ℕ) (g : List ℕ) → slice_get h k ≡ Some a
-      → IsExtended (conflict_at h) (conflict_at_test h) (k ∷ []) (positions_on h (object_of a)) g
-      → IsLargest (conflict_at h) (Contains (positions_on h (object_of a))) (Contains g)
-  largest k g at r = record {
-    within = λ i c. elim (r.from i c) [
-      | inl d ↦ elim (Contains-cons_cases k [] i d) [
-        | inl e ↦ subst (Contains (positions_on h (object_of a))) (sym e)
-            ((all_positions h (object_of a) k).1 (rw at (on_to (object_of a) a refl)))
-        | inr n ↦ absurd (not_Contains-nil i n)
-      ]
-      | inr u ↦ u
-    ];
-    compatible = r.compatible;
-    largest = r.covers;
-  }
+  -- its position is one of the positions on its object
+  here : (k : ℕ) → slice_get h k ≡ Some a → Within (k ∷ []) (positions_on h (object_of a))
+  here k at i c = elim (Contains-cons_cases k [] i c) [
+    | inl e ↦ subst (Contains (positions_on h (object_of a))) (sym e)
+        ((all_positions h (object_of a) k).1 (rw at (on_to (object_of a) a refl)))
+    | inr n ↦ absurd (not_Contains-nil i n)
+  ]
 
+  -- the first completion of its position alone is a version
   pub stands_in_one : (g : List OpId) × IsVersion h (object_of a) g × Contains g a.id
   stands_in_one =
       let o = object_of a in
+      let us = positions_on h o in
       let k = position_of_op h a there in
-      let r = extended (conflict_at h) (conflict_at_test h) (positions_on h o) (k.0 ∷ [])
-      (alone k.0) in (
+      let r = first_over (conflict_at h) (conflict_at_test h) us (k.0 ∷ [])
+      (positions_on-rising h o) (here k.0 k.1) (alone k.0) in (
         rising_ids h r.0,
-        version_of_largest h valid o (positions_on h o) (all_positions h o) made r.0
-            (largest k.0 r.0 k.1 r.1),
+        version_of_largest h valid o us (all_positions h o) made r.0
+            (first_largest (conflict_at h) (conflict_at_test h) us (k.0 ∷ []) r.0 r.2),
         (Contains-rising_ids h r.0 a.id).1 (record {
           position = k.0;
           op = a;
-          contained = r.1.kept k.0 (Contains-cons_head k.0 []);
+          contained = r.2.kept k.0 (Contains-cons_head k.0 []);
           at = k.1;
           id = refl;
         }),

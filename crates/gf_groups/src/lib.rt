@@ -5,17 +5,19 @@
 //!   such list. [`is_made`]: whether the history has the object.
 //! - [`each_operation_stands_in_a_version`], [`the_versions_are_a_list_that_computes`]: the laws.
 //!
-//! For tables of versions: whether the operations at two positions conflict ([`conflict_at`]) or
-//! come one before the other ([`before_at`]), and the largest sets of positions without a conflict
-//! ([`groups_at`]). [`groups_from`] makes such sets the groups of an object, and [`add_groups`]
-//! adds these groups to others. [`rising_ids`] are the ids of the operations at some positions.
+//! For tables of versions:
+//!
+//! - [`conflict_at`], [`before_at`]: whether the operations at two positions conflict, or come one
+//!   before the other.
+//! - [`groups_from`]: the groups of an object, from the largest sets of positions without a
+//!   conflict. [`add_groups`] adds such groups to others.
+//! - [`rising_ids`]: the ids of the operations at some positions.
 #![tactic(auto)]
 
 mod conflict;
 mod faults;
 mod group;
 mod groups;
-mod growth;
 mod laws;
 mod listing;
 
@@ -23,6 +25,5 @@ pub use conflict::{before_at, conflict_at};
 pub use faults::GroupFault;
 pub use group::{Group, Groups};
 pub use groups::{groups_from, is_made};
-pub use growth::groups_at;
 pub use laws::{each_operation_stands_in_a_version, the_versions_are_a_list_that_computes};
 pub use listing::{add_groups, rising_ids};

@@ -76,7 +76,7 @@ fn lines_of(
     requires { IsMade versions.now object }
     ensures { IfOk result (λ text. TellsObject notation versions.now several object text.items) }
 {
-    let count = versions.count(object);
+    let count = versions.count(alloc, object)?;
     if is_left_out(several, count) {
         return Ok(Vec::new(alloc));
     }

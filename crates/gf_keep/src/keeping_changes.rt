@@ -21,7 +21,7 @@ use std::alloc::Global;
 /// without an aim. Then one shows each kept version, in the order of their ids. It aims at what
 /// tells the version from all operations on the object, and at what these aim at.
 ///
-/// The versions of the history are made first. Each member of a kept version is compared
+/// The visible versions of the object are made first. Each member of a kept version is compared
 /// with each operation on the object.
 pub fn keeping(alloc: Global, history: &History, keep: &Keep) -> Result<Vec<Change>, KeepFault>
     ensures changes { IfOk result (λ changes. AreKeeping history.now.ops keep.now changes.items) }

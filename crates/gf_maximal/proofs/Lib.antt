@@ -1,5 +1,4 @@
 pub mod LargestLemmas
-pub mod ExtendingLemmas
 pub mod MaximalLemmas
 pub mod GrowingLemmas
 pub mod RunLemmas
@@ -9,4 +8,9 @@ mod SameRunLemmas
 pub mod RunTestLemmas
 pub mod RunEditLemmas
 pub mod UnitedLemmas
-pub mod ImageLemmas
+pub mod FirstLemmas
+pub mod ParentLemmas
+pub mod PartLemmas
+pub mod ClassLemmas
+pub mod CuttingLemmas
+pub mod ListingLemmas

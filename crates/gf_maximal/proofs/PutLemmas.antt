@@ -2,12 +2,12 @@
 use Rattle.std.proofs.Common.{◌≡◌, length, get_or, take, drop, append_assoc, ℕ, zero, suc, ◌<◌, ◌≤◌}
 use Rattle.std.proofs.Common.{◌+◌, ◌-◌, Bool, false, List, [], ◌∷◌, ◌++◌, inl, inr, refl}
 use Rattle.std.proofs.Common.{subst, sym, ap, ◌∙◌, arith, nat_le, nat_lt}
-use Rattle.std.specs.Prelude.{◌⊎◌, ◌↔◌, Contains, ◌==◌}
+use Rattle.std.specs.Prelude.{◌⊎◌, ◌↔◌, Contains, ◌==◌, ◌&&◌}
 use Rattle.std.specs.Prelude.{Result, Ok, Err, OnOk, OnErr}
 use Rattle.std.specs.FinMap.{nat_cmp-IsAntisymmetric}
 use Rattle.std.specs.Ordering.{nat_cmp}
 use Rattle.std.specs.List.{range_with_len, list_any, list_all}
-use Rattle.std.proofs.lemmas.Bool.{cases_Bool}
+use Rattle.std.proofs.lemmas.Bool.{cases_Bool, and_parts, and_from}
 use Rattle.std.proofs.lemmas.Bool.Decides.{Decides-eqb}
 use Rattle.std.proofs.lemmas.Cmp.{nat_cmp_total}
 use Rattle.std.proofs.lemmas.List.{append-nil}
@@ -15,7 +15,7 @@ use Rattle.gf_maximal.specs.declared.run.Run.{Run}
 use Rattle.gf_maximal.specs.Growing.{is_in, intersects, without, is_within, joined}
 use Rattle.gf_maximal.specs.Runs.{numbers_of, members, AreRuns, Serves, after, is_inside}
 use Rattle.gf_maximal.specs.Runs.{touches, covers, piece, cut, all_cut}
-use Rattle.gf_maximal.specs.Runs.{absorb, put_into, put, single}
+use Rattle.gf_maximal.specs.Runs.{absorb, put_into, put, single, until}
 use Rattle.gf_maximal.specs.LargestSets.{IsRising}
 use Rattle.gf_base.proofs.ListLemmas.{Contains-cons_cases, Contains-cons_head, Contains-cons_tail}
 use Rattle.gf_base.proofs.ListLemmas.{not_Contains-nil}
@@ -23,12 +23,12 @@ use Rattle.gf_base.proofs.FilterLemmas.{list_any_true, list_any_from}
 use Rattle.gf_base.proofs.InsertLemmas.{inserted, holds}
 use Rattle.gf_maximal.proofs.MaximalLemmas.{in_list, from_list}
 use Rattle.gf_maximal.proofs.RunLemmas.{nat_le_true, nat_le_from, nat_le_false, nat_lt_true}
-use Rattle.gf_maximal.proofs.RunLemmas.{nat_lt_false}
+use Rattle.gf_maximal.proofs.RunLemmas.{nat_lt_false, nat_lt_from}
 use Rattle.gf_maximal.proofs.RunSetLemmas.{In, Has, in_range, in_numbers, in_members, range_rises}
 use Rattle.gf_maximal.proofs.RunSetLemmas.{members_rise, members_are, after_runs, piece_has}
 use Rattle.gf_maximal.proofs.RunSetLemmas.{piece_runs, rest, cut_is, bool_same, inside_true}
 use Rattle.gf_maximal.proofs.RunSetLemmas.{inside_from, touches_is, covers_is, intersects_is}
-use Rattle.gf_maximal.proofs.RunSetLemmas.{within_is}
+use Rattle.gf_maximal.proofs.RunSetLemmas.{within_is, of_one, has_one}
 use Rattle.gf_maximal.proofs.RunSetLemmas.{list_any_same}
 
 -- ---- one more number
@@ -298,6 +298,35 @@ intersects_told rs qs rs2 qs2 k g t e f w v u h = rw (← v, ← u)
     ∙ (list_any_same (touches qs) (λ r. list_any (is_inside r) (members qs))
     (λ r. touches_is qs r w) rs ∙ intersects_is rs (members qs)))))
 
+below_is : (n : ℕ) (rs : List Run) (g : List ℕ) → list_any (λ r. list_any (is_inside (until n r)) g)
+    rs ≡ list_any (λ b. nat_lt b n && is_in (members rs) b) g
+below_is n rs g = bool_same (list_any (λ r. list_any (is_inside (until n r)) g) rs)
+    (list_any (λ b. nat_lt b n && is_in (members rs) b) g)
+    (λ t.
+    let o = list_any_true (λ r. list_any (is_inside (until n r)) g) rs t in
+    let w = list_any_true (is_inside (until n o.0)) g o.2 in
+    let i = inside_true (until n o.0) w.0 w.2 in
+    let low = i.0 in let high = i.1 in
+    list_any_from (λ b. nat_lt b n && is_in (members rs) b) g w.0 w.1
+    (and_from (nat_lt w.0 n) (is_in (members rs) w.0) (nat_lt_from w.0 n (omega arith))
+    (in_list (members rs) w.0 ((in_members rs w.0).1
+    (has_one rs o.0 w.0 o.1 (low, omega arith))))))
+    (λ t.
+    let w = list_any_true (λ b. nat_lt b n && is_in (members rs) b) g t in
+    let p = and_parts (nat_lt w.0 n) (is_in (members rs) w.0) w.2 in
+    let l = nat_lt_true w.0 n p.0 in
+    let o = of_one rs w.0 ((in_members rs w.0).0 (from_list (members rs) w.0 p.1)) in
+    let low = o.2.0 in let high = o.2.1 in
+    list_any_from (λ r. list_any (is_inside (until n r)) g) rs o.0 o.1
+    (list_any_from (is_inside (until n o.0)) g w.0 w.1
+    (inside_from (until n o.0) w.0 (low, omega arith))))
+
+pub below_told : (n : ℕ) (rs ss : List Run) (k g : List ℕ) (t : Bool) → ss ≡ rs → members rs ≡ k
+    → t ≡ list_any (λ r. list_any (is_inside (until n r)) g) ss
+    → t ≡ list_any (λ b. nat_lt b n && is_in k b) g
+below_told n rs ss k g t e v h = rw (← v)
+    (subst (λ z. t ≡ list_any (λ r. list_any (is_inside (until n r)) g) z) e h ∙ below_is n rs g)
+
 pub within_told : (rs ss : List Run) (g k : List ℕ) (t : Bool) → ss ≡ rs → members rs ≡ k
     → t ≡ list_all (λ r. list_all (is_in g) (numbers_of r)) ss → t ≡ is_within k g
 within_told rs ss g k t e v h = rw (← v)
@@ -320,7 +349,7 @@ has_is x g = bool_same (list_any (is_inside (single x)) g) (is_in g x)
     (λ t. list_any_from (is_inside (single x)) g x (from_list g x t)
     (inside_from (single x) x ((single_in x x).1 refl)))
 
-range_alone : (n b : ℕ) → IsRising (range_with_len b n)
+pub range_alone : (n b : ℕ) → IsRising (range_with_len b n)
 unfolding Rattle.std.specs.List.Sorted.IsStrictlySortedBy
 range_alone n b = subst IsRising (append-nil (range_with_len b n))
     (range_rises n b [] tt (λ y h. absurd (not_Contains-nil y h)))

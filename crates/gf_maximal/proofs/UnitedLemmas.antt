@@ -17,13 +17,16 @@ use Rattle.std.specs.BTreeSet.{insert_key}
 use Rattle.gf_maximal.specs.LargestSets.{IsRising}
 use Rattle.gf_base.proofs.RisingLemmas.{rising_nil}
 use Rattle.gf_maximal.specs.Growing.{is_in, without, united, common}
-use Rattle.gf_maximal.specs.Runs.{members, AreRuns, pushed, single, IsGathered}
+use Rattle.gf_maximal.specs.Runs.{members, numbers_of, AreRuns, pushed, single, is_full}
+use Rattle.gf_maximal.specs.Runs.{IsGathered}
+use Rattle.gf_base.proofs.FilterLemmas.{Contains-filter}
 use Rattle.gf_base.proofs.ListLemmas.{Contains-cons_cases, Contains-cons_head, Contains-cons_tail}
 use Rattle.gf_base.proofs.ListLemmas.{Contains-map, Contains-map_from, not_Contains-nil}
 use Rattle.gf_base.proofs.InsertLemmas.{inserted_all, holds_all}
 use Rattle.gf_maximal.proofs.MaximalLemmas.{in_list, from_list, out_of, Contains-without}
 use Rattle.gf_maximal.proofs.RunLemmas.{nat_le_true, nat_le_false, nat_lt_true, nat_lt_false}
-use Rattle.gf_maximal.proofs.RunSetLemmas.{In, Has, in_members, of_one, has_one}
+use Rattle.gf_maximal.proofs.RunLemmas.{nat_lt_from}
+use Rattle.gf_maximal.proofs.RunSetLemmas.{In, Has, in_members, in_numbers, of_one, has_one}
 use Rattle.gf_maximal.proofs.PutLemmas.{StartAbove}
 use Rattle.gf_maximal.proofs.RunSetLemmas.{not_empty, members_are}
 
@@ -259,6 +262,52 @@ singles_told ns us u =
             (omega arith, omega arith))
       ],
     ))
+
+-- ---- the numbers of runs that may be empty and stand in any order
+
+full_kept : (rs : List Run) → AreFull (filter is_full rs)
+full_kept rs q h = nat_lt_true q.start q.end ((Contains-filter is_full rs q).0 h).1
+
+pub full_runs : (rs us : List Run) → IsGathered (filter is_full rs) us → AreRuns us
+full_runs rs us u = (gathered_runs (filter is_full rs) us (full_kept rs) u).0
+
+-- a run of rs has a
+abbrev pub OneHas : List Run → ℕ → Type 0
+OneHas rs a = (r : Run) × Contains rs r × Contains (numbers_of r) a
+
+has_of_full : (rs : List Run) (a : ℕ) → Has (filter is_full rs) a ↔ Has rs a
+has_of_full rs a = (
+  λ h. let o = of_one (filter is_full rs) a h in
+      has_one rs o.0 a ((Contains-filter is_full rs o.0).0 o.1).0 o.2,
+  λ h. let o = of_one rs a h in let i = o.2.0 in let j = o.2.1 in
+      has_one (filter is_full rs) o.0 a ((Contains-filter is_full rs o.0).1
+      (o.1, nat_lt_from o.0.start o.0.end (omega arith))) o.2,
+)
+
+pub full_told : (rs us : List Run) → IsGathered (filter is_full rs) us
+    → members us ≡ fold (insert_key nat_cmp) [] (members rs)
+full_told rs us u =
+    let m = gathered_runs (filter is_full rs) us (full_kept rs) u in
+    members_are us (fold (insert_key nat_cmp) [] (members rs)) m.0
+    (inserted_all nat_cmp nat_cmp_total nat_cmp-IsAntisymmetric (members rs) []
+    (rising_nil nat_cmp nat_cmp_total)) (λ a. (
+      λ h. (holds_all nat_cmp nat_cmp_total nat_cmp-IsAntisymmetric (members rs) [] a).1
+          (inr ((in_members rs a).1 ((has_of_full rs a).0 ((m.1 a).0 h)))),
+      λ h. elim ((holds_all nat_cmp nat_cmp_total nat_cmp-IsAntisymmetric (members rs) [] a).0 h) [
+        | inl n ↦ absurd (not_Contains-nil a n)
+        | inr i ↦ (m.1 a).1 ((has_of_full rs a).1 ((in_members rs a).0 i))
+      ],
+    ))
+
+pub full_has : (rs us : List Run) → IsGathered (filter is_full rs) us → (a : ℕ)
+    → Contains (members us) a ↔ OneHas rs a
+full_has rs us u a =
+    let m = gathered_runs (filter is_full rs) us (full_kept rs) u in (
+      λ h. let o = of_one rs a ((has_of_full rs a).0 ((m.1 a).0 ((in_members us a).0 h))) in
+          (o.0, o.1, (in_numbers o.0 a).1 o.2),
+      λ w. (in_members us a).1 ((m.1 a).1 ((has_of_full rs a).1
+          (has_one rs w.0 a w.1 ((in_numbers w.0 a).0 w.2)))),
+    )
 
 -- ---- the union of lists
 

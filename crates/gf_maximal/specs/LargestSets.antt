@@ -25,3 +25,7 @@ pub record AreLargestSets (c : ℕ → ℕ → Bool) (us : List ℕ) (gs : List 
   pub each : (g : List ℕ) → Contains gs g
       ↔ (IsRising g × IsLargest c (Contains us) (Contains g))
   pub once : AllPairs (λ g h. g ≢ h) gs
+
+-- each of the sets gs is a largest compatible set of us
+abbrev pub AreLargest : (ℕ → ℕ → Bool) → List ℕ → List (List ℕ) → Type 0
+AreLargest c us gs = (g : List ℕ) → Contains gs g → IsLargest c (Contains us) (Contains g)

@@ -1,5 +1,5 @@
 -- A set of numbers as runs of numbers that follow each other.
-use Rattle.std.specs.Prelude.{◌≡◌, ◌≤◌, max, true, length, slice_index_or, ℕ, ◌+◌}
+use Rattle.std.specs.Prelude.{◌≡◌, ◌≤◌, max, min, true, length, slice_index_or, ℕ, ◌+◌}
 use Rattle.std.specs.Prelude.{◌-◌, ◌<◌}
 use Rattle.std.specs.Prelude.{Bool, cond, ◌==◌, ◌&&◌, ◌||◌, nat_eq, nat_le, nat_lt}
 use Rattle.std.specs.Prelude.{List, []}
@@ -23,6 +23,10 @@ are_same rs qs = pointwise is_same rs qs
 abbrev pub numbers_of : Run → List ℕ
 numbers_of r = range_with_len r.start (r.end - r.start)
 
+-- the run has a number
+abbrev pub is_full : Run → Bool
+is_full r = nat_lt r.start r.end
+
 -- the numbers of all runs
 abbrev pub members : List Run → List ℕ
 members rs = flat_map numbers_of rs
@@ -41,6 +45,10 @@ after n (r ∷ rs) = cond (nat_le r.end n) (after n rs) (r ∷ rs)
 -- a is in the run
 abbrev pub is_inside : Run → ℕ → Bool
 is_inside r a = nat_le r.start a && nat_lt a r.end
+
+-- the numbers of the run below n
+abbrev pub until : ℕ → Run → Run
+until n r = record { start = r.start; end = min r.end n }
 
 -- the first of these runs begins before r ends
 abbrev pub first_touches : Run → List Run → Bool

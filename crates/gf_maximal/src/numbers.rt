@@ -1,17 +1,19 @@
 //! Sets of numbers.
 
 ghost use Rattle.std.specs.Prelude.{◌≡◌, ◌+◌, ◌-◌, ◌^◌, ◌<◌, [], IfOk, OnOk, OnErr, IsTrue, ◌↔◌};
-ghost use Rattle.std.specs.Prelude.{All, bytes_eq};
+ghost use Rattle.std.specs.Prelude.{All, bytes_eq, ℕ, Contains, ◌&&◌, nat_lt};
 ghost use Rattle.std.specs.BTreeSet.{insert_key};
 ghost use Rattle.std.specs.List.{fold, list_any, list_all, range_with_len};
 ghost use Rattle.std.specs.Ordering.{nat_cmp};
 ghost use Rattle.gf_maximal.specs.Growing.{is_in, intersects, without, is_within, joined};
 ghost use Rattle.gf_maximal.specs.LargestSets.{IsRising};
 ghost use Rattle.gf_maximal.specs.Growing.{united, common};
-ghost use Rattle.gf_maximal.specs.Runs.{is_inside, members, numbers_of};
+ghost use Rattle.gf_maximal.specs.Runs.{is_inside, members, numbers_of, until};
+ghost use Rattle.gf_maximal.specs.declared.run.Run.{Run};
 
 use crate::run::{
-    Run, all_cut, any_touches, are_same, covers, numbers_in, one_run, put, runs_of, touches, united,
+    Run, all_cut, any_touches, are_same, covers, gathered_full, numbers_in, one_run, put, runs_of,
+    touches, united,
 };
 use gf_base::OutOfMemory;
 use std::alloc::Global;
@@ -41,6 +43,21 @@ fn all_covered(runs: &[Run], numbers: &Numbers) -> bool
     runs.iter().all(|run| numbers.covers(*run))
 }
 
+/// Whether a number of these runs below `end` is among the numbers.
+fn any_below(runs: &[Run], end: usize, numbers: &Numbers) -> bool
+    ensures { result ≡ list_any (λ r. list_any (is_inside (until end r)) numbers.now) runs.now }
+{
+    for run in runs {
+        if numbers.touches(Run {
+            start: run.start,
+            end: run.end.min(end),
+        }) {
+            return true;
+        }
+    }
+    false
+}
+
 impl Numbers {
     /// The set of no number.
     pub fn new(alloc: Global) -> Numbers
@@ -67,6 +84,18 @@ impl Numbers {
     {
         Ok(Numbers {
             runs: runs_of(alloc, numbers)?,
+        })
+    }
+
+    /// The set of the numbers of these runs, which may be empty or overlap and stand in any order.
+    pub fn of_runs(alloc: Global, runs: Vec<Run>) -> Result<Numbers, OutOfMemory>
+        ensures numbers { IfOk result (λ set.
+            set ≡ fold (insert_key nat_cmp) [] (members runs.items)) }
+        ensures has { IfOk result (λ set. (a : ℕ) → Contains set a
+            ↔ ((r : Run) × Contains runs.items r × Contains (numbers_of r) a)) }
+    {
+        Ok(Numbers {
+            runs: gathered_full(alloc, runs)?,
         })
     }
 
@@ -130,7 +159,18 @@ impl Numbers {
     pub fn intersects(&self, others: &Numbers) -> bool
         ensures { result ≡ intersects self.now others.now }
     {
-        any_touches(&self.runs, &others.runs)
+        if self.runs.len() <= others.runs.len() {
+            any_touches(&self.runs, &others.runs)
+        } else {
+            any_touches(&others.runs, &self.runs)
+        }
+    }
+
+    /// Whether a number of the set below `end` is one of the others.
+    pub fn meets_below(&self, others: &Numbers, end: usize) -> bool
+        ensures { result ≡ list_any (λ a. nat_lt a end && is_in self.now a) others.now }
+    {
+        any_below(&self.runs, end, others)
     }
 
     /// Whether each number of the set is one of the others.

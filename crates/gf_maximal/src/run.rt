@@ -1,13 +1,13 @@
 //! Runs of numbers that follow each other, and lists of such runs.
 
-ghost use Rattle.std.specs.Prelude.{◌≡◌, ◌++◌, ◌+◌, ◌^◌, ◌<◌, ◌≤◌, ◌&&◌, nat_lt, [], map, All};
+ghost use Rattle.std.specs.Prelude.{◌≡◌, ◌++◌, ◌+◌, ◌^◌, ◌<◌, ◌≤◌, ◌&&◌, nat_lt, [], map, filter, All};
 ghost use Rattle.std.specs.Prelude.{take, drop, length, slice_index_or, IfOk, OnOk, OnErr};
 ghost use Rattle.std.specs.List.{fold, list_any};
 ghost use Rattle.std.specs.List.Sorted.{IsPermutation, IsNonDecreasingBy};
 ghost use Rattle.gf_maximal.specs.Runs.{AreRuns, numbers_of, members, single, after};
 ghost use Rattle.gf_maximal.specs.Runs.{first_touches, first_covers, touches, covers};
 ghost use Rattle.gf_maximal.specs.Runs.{piece, cut, all_cut, absorb, put_at, put, IsFirstFrom};
-ghost use Rattle.gf_maximal.specs.Runs.{pushed, are_same, IsGathered};
+ghost use Rattle.gf_maximal.specs.Runs.{pushed, are_same, is_full, IsGathered};
 
 use gf_base::OutOfMemory;
 use std::alloc::Global;
@@ -282,6 +282,21 @@ fn gathered(alloc: Global, runs: Vec<Run>) -> Result<Vec<Run>, OutOfMemory>
         push_run(run, &mut all)?;
     }
     Ok(all)
+}
+
+/// Drops the runs that have no number.
+fn drop_empty(runs: &mut Vec<Run>)
+    ensures { runs.new.items ≡ filter is_full runs.old.items }
+{
+    runs.retain(|run| run.start < run.end);
+}
+
+/// Runs of all numbers of these ones, which may be empty or overlap and stand in any order.
+pub(crate) fn gathered_full(alloc: Global, mut runs: Vec<Run>) -> Result<Vec<Run>, OutOfMemory>
+    ensures { IfOk result (λ all. IsGathered (filter is_full runs.items) all.items) }
+{
+    drop_empty(&mut runs);
+    gathered(alloc, runs)
 }
 
 /// Runs with the numbers of both lists.

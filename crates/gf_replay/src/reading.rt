@@ -11,7 +11,7 @@ ghost use Rattle.gf_replay.specs.LineSteps.{HasRead, RefusesLine, TakesLine};
 
 use crate::blocks::{Block, Reading, read_block};
 use crate::{ReadingError, line_refusal, take_op};
-use gf_site::{GrowingHistory, Replica};
+use gf_site::Replica;
 use gf_streams::TextLines;
 use std::alloc::{AllocError, Global};
 use std::thread;
@@ -21,12 +21,12 @@ use std::thread::Threads;
 /// operation until all that this knows is there. What it holds at the end is no part of the
 /// history, and waits. The lines are read by 1 to 16 workers, and taken in order. The text's memory
 /// is given back as it is read.
-pub fn read_replica<R: Threads + Sync, H: GrowingHistory>(
+pub fn read_replica<R: Threads + Sync>(
     rt: &R,
     alloc: Global,
     text: Vec<u8>,
     workers: u8,
-) -> Result<Replica<H>, ReadingError>
+) -> Result<Replica, ReadingError>
     requires { (1 ≤ workers) × (workers ≤ 16) }
     ensures ok { IfOk result (λ replica. Denotes text.items replica.ops) }
     ensures held { IfOk result (λ replica.
@@ -51,13 +51,13 @@ pub fn read_replica<R: Threads + Sync, H: GrowingHistory>(
 
 /// Takes what the lines of a block read as, and reads the next block. With several workers, one of
 /// them takes while the others read.
-fn take_and_read<R: Threads + Sync, H: GrowingHistory>(
+fn take_and_read<R: Threads + Sync>(
     rt: &R,
     alloc: Global,
-    replica: Replica<H>,
+    replica: Replica,
     block: Block,
     workers: u8,
-) -> Result<(Replica<H>, Block), ReadingError>
+) -> Result<(Replica, Block), ReadingError>
     requires workers { 1 ≤ workers }
     requires block { AreOfLines block.readings.items }
     ensures ok { (text : List ℕ) → IsBefore text block.readings.items block.behind replica
@@ -82,7 +82,7 @@ fn take_and_read<R: Threads + Sync, H: GrowingHistory>(
             requires { IsSync R.row × (1 ≤ readers) }
             ensures { IfOk result (λ block. IsBlock behind block.readings.items block.behind) }
         { read_block(rt, alloc, behind, readers) },
-        move || -> Result<Replica<H>, ReadingError>
+        move || -> Result<Replica, ReadingError>
             requires { AreOfLines readings.items }
             ensures { TakesBlock readings.items replica result }
         { take_block(replica, readings) },
@@ -102,10 +102,7 @@ fn is_read_meanwhile(lines: &TextLines, workers: u8) -> bool
 }
 
 /// Takes what the lines of a block read as, in order.
-fn take_block<H: GrowingHistory>(
-    replica: Replica<H>,
-    readings: Vec<Reading>,
-) -> Result<Replica<H>, ReadingError>
+fn take_block(replica: Replica, readings: Vec<Reading>) -> Result<Replica, ReadingError>
     requires { AreOfLines readings.items }
     ensures { TakesBlock readings.items replica result }
 {
@@ -117,10 +114,7 @@ fn take_block<H: GrowingHistory>(
 }
 
 /// Takes what a line reads as.
-fn take_reading<H: GrowingHistory>(
-    replica: &mut Replica<H>,
-    reading: Reading,
-) -> Result<(), ReadingError>
+fn take_reading(replica: &mut Replica, reading: Reading) -> Result<(), ReadingError>
     requires { IfOk reading.op (λ op. IsInRange op) }
     ensures ok { (line : ℕ × List ℕ) → IsReading line reading →
         OnOk result (TakesLine line.1 replica.old replica.new) }

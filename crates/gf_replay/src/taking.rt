@@ -10,15 +10,11 @@ use gf_base::OutOfMemory;
 use gf_causal::OfferFault;
 use gf_json::LineError;
 use gf_ops::Op;
-use gf_site::{GrowingHistory, Replica, Step};
+use gf_site::{Replica, Step};
 
 /// Receives the operation of the line of this number, and steps until nothing is ready. After an
 /// error nothing is promised of the replica.
-pub fn take_op<H: GrowingHistory>(
-    replica: &mut Replica<H>,
-    number: u64,
-    op: Op,
-) -> Result<(), ReadingError>
+pub fn take_op(replica: &mut Replica, number: u64, op: Op) -> Result<(), ReadingError>
     requires { IsInRange op }
     ensures ok { OnOk result (TakesOp op replica.old replica.new) }
     ensures err { IfErr result (RefusesOp number op replica.old) }
@@ -44,7 +40,7 @@ pub fn line_refusal(number: u64, fault: LineError) -> ReadingError
 }
 
 /// Steps until nothing is ready.
-fn step_all<H: GrowingHistory>(replica: &mut Replica<H>) -> Result<(), ReadingError>
+fn step_all(replica: &mut Replica) -> Result<(), ReadingError>
     ensures ok { OnOk result (StepsAll replica.old replica.new) }
     ensures err { IfErr result (RefusesStepping replica.old) }
 {

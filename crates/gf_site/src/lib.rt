@@ -2,20 +2,16 @@
 //!
 //! - [`Replica`]: receives operations of any sites, and steps.
 //! - [`Site`]: a replica under a number. It makes operations of changes, too.
-//! - [`GrowingHistory`]: the history that both have. It is a `VersionedHistory` where nothing else is
-//!   said; with a `History` alone no time is spent on versions.
 //! - [`Step`], [`AuthorFault`]: what a step came to, and why a change was refused.
 //! - [`Cause`]: why a command to make a change, or to wait for an operation, was refused.
 #![tactic(auto)]
 
 mod cause;
 mod faults;
-mod growing;
 mod replica;
 mod site;
 
 pub use cause::Cause;
 pub use faults::AuthorFault;
-pub use growing::GrowingHistory;
 pub use replica::{Replica, Step};
 pub use site::Site;

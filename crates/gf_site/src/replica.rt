@@ -13,7 +13,6 @@ ghost use Rattle.gf_site.specs.ReplicaState.{new_replica};
 ghost use Rattle.gf_site.specs.ReplicaSteps.{HasNext, StepsOnce};
 ghost use Rattle.gf_site.specs.Offers.{HasOtherThan, HasAlready, IsNewTo, ComesToHold};
 
-use crate::GrowingHistory;
 use gf_base::OutOfMemory;
 use gf_causal::{Buffer, OfferFault, Offered};
 use gf_ops::{History, Op, OpFault, OpId};
@@ -32,23 +31,23 @@ pub enum Step {
     Idle,
 }
 
-/// A history, by default with its versions, and the operations held until they are ready.
+/// A history with its versions, and the operations held until they are ready.
 #[derive(Drop)]
-pub struct Replica<H: GrowingHistory = VersionedHistory> {
+pub struct Replica {
     alloc: Global,
-    history: H,
+    history: VersionedHistory,
     buffer: Buffer,
 }
 
-impl<H: GrowingHistory> Model for Replica<H> {
+impl Model for Replica {
     ghost use Rattle.gf_site.specs.ReplicaState.{ReplicaState};
 
     ghost Value = { ReplicaState };
 
-    ghost view = { λ r. record { ops = H.ops r.history; held = r.buffer } };
+    ghost view = { λ r. record { ops = r.history; held = r.buffer } };
 }
 
-impl Replica<VersionedHistory> {
+impl Replica {
     /// The versions of all objects of the history.
     pub fn table(&self) -> &GroupTable
         ensures { StandsFor self.now.ops result.now }
@@ -65,20 +64,20 @@ impl Replica<VersionedHistory> {
     }
 }
 
-impl<H: GrowingHistory> Replica<H> {
+impl Replica {
     /// A replica that has and holds nothing.
-    pub fn new(alloc: Global) -> Replica<H>
+    pub fn new(alloc: Global) -> Replica
         ensures { result ≡ new_replica }
     {
         Replica {
             alloc,
-            history: H::new(alloc),
+            history: VersionedHistory::new(alloc),
             buffer: Buffer::new(alloc),
         }
     }
 
     /// A copy of the replica.
-    pub fn copy(&self, alloc: Global) -> Result<Replica<H>, OutOfMemory>
+    pub fn copy(&self, alloc: Global) -> Result<Replica, OutOfMemory>
         ensures { IfOk result (λ copy. copy ≡ self.now) }
     {
         Ok(Replica {

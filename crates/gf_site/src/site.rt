@@ -16,7 +16,7 @@ ghost use Rattle.gf_site.specs.Events.{Refuses, Authors, Steps};
 ghost use Rattle.gf_site.specs.Offers.{HasOtherThan, HasAlready, IsNewTo, ComesToHold};
 ghost use Rattle.gf_site.specs.declared.faults.AuthorFault.TheVariants as fault;
 
-use crate::{AuthorFault, GrowingHistory, Replica, Step};
+use crate::{AuthorFault, Replica, Step};
 use gf_base::OutOfMemory;
 use gf_causal::{OfferFault, Offered};
 use gf_ops::{Change, Clock, History, Op, OpFault, OpId};
@@ -26,13 +26,13 @@ use std::marker::Model;
 
 /// A replica under the number of a site, which makes operations of changes.
 #[derive(Drop)]
-pub struct Site<H: GrowingHistory = VersionedHistory> {
+pub struct Site {
     number: u8,
-    replica: Replica<H>,
+    replica: Replica,
     alloc: Global,
 }
 
-impl<H: GrowingHistory> Model for Site<H> {
+impl Model for Site {
     ghost use Rattle.gf_ops.specs.OperationOrder.{IsSite};
     ghost use Rattle.gf_site.specs.SiteState.{SiteState, at_site};
 
@@ -43,7 +43,7 @@ impl<H: GrowingHistory> Model for Site<H> {
     ghost invariant = { λ s. IsSite s.number };
 }
 
-impl Site<VersionedHistory> {
+impl Site {
     /// A site that has and holds nothing.
     pub fn new(alloc: Global, number: u8) -> Site
         requires { IsSite number }
@@ -68,9 +68,9 @@ impl Site<VersionedHistory> {
     }
 }
 
-impl<H: GrowingHistory> Site<H> {
+impl Site {
     /// The site of this number that has and holds what the replica does.
-    pub fn with_replica(alloc: Global, number: u8, replica: Replica<H>) -> Site<H>
+    pub fn with_replica(alloc: Global, number: u8, replica: Replica) -> Site
         requires { IsSite number }
         ensures { result ≡ at_site number replica }
     {
@@ -82,7 +82,7 @@ impl<H: GrowingHistory> Site<H> {
     }
 
     /// A copy of the site.
-    pub fn copy(&self, alloc: Global) -> Result<Site<H>, OutOfMemory>
+    pub fn copy(&self, alloc: Global) -> Result<Site, OutOfMemory>
         ensures { IfOk result (λ copy. copy ≡ self.now) }
     {
         Ok(Site {
@@ -101,7 +101,7 @@ impl<H: GrowingHistory> Site<H> {
     }
 
     /// What the site has and holds.
-    pub fn replica(&self) -> &Replica<H>
+    pub fn replica(&self) -> &Replica
         ensures { result.now ≡ replica_of self.now }
     {
         &self.replica

@@ -62,7 +62,7 @@ fn object_status(
     ensures status { IfOk result (λ status. IsObjectStatus versions.now status) }
 {
     let history = versions.history();
-    let count = versions.count(object);
+    let count = versions.count(alloc, object)?;
     match visible_groups(alloc, versions, object, MOST_VERSIONS)? {
         Some(groups) => {
             let all = versions.operations(alloc, object)?;

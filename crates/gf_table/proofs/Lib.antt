@@ -1,9 +1,3 @@
-pub mod LongerLemmas
-pub mod ByPositionLemmas
-pub mod StateLemmas
 pub mod StandsLemmas
-pub mod FittingLemmas
-pub mod ListedLemmas
-pub mod RivalOfAimLemmas
-pub mod CountingLemmas
 pub mod PositionLemmas
+pub mod CountingLemmas

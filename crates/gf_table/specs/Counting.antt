@@ -2,13 +2,13 @@
 use Rattle.std.specs.Prelude.{◌≡◌, ℕ, ◌+◌, cond, nat_le, List, length}
 use Rattle.gf_ops.specs.declared.op.Op.{Op}
 use Rattle.gf_ops.specs.declared.op.ObjectId.{ObjectId}
-use Rattle.gf_components.specs.Components.{most_sets}
 use Rattle.gf_groups.specs.declared.group.Group.{Group}
+use Rattle.gf_table.specs.declared.versions.TheConstants.{MOST_COUNTED}
 use Rattle.gf_table.specs.Standing.{AreAllOf}
 
--- n, or one more than the most sets that are kept where it is more than these
+-- n, or one more than the most versions that are counted where it is more than these
 abbrev pub capped : ℕ → ℕ
-capped n = cond (nat_le n most_sets) n (most_sets + 1)
+capped n = cond (nat_le n MOST_COUNTED) n (MOST_COUNTED + 1)
 
 -- the object o of h has n versions, hidden ones too, or more than 1,000 where n is 1,001
 pub record IsCount (h : List Op) (o : ObjectId) (n : ℕ) : Type 0 where

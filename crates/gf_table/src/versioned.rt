@@ -15,7 +15,7 @@ use gf_ops::{History, ObjectId, Op};
 use std::alloc::Global;
 use std::marker::Model;
 
-/// A history and the table of its versions, seen as the list of its operations.
+/// A history and the table of its positions, seen as the list of its operations.
 #[derive(Drop)]
 pub struct VersionedHistory {
     history: History,
@@ -106,7 +106,7 @@ impl VersionedHistory {
 }
 
 /// All versions of an object of a history alone, as [`Versions::groups`] gives them. The call first
-/// adds the history to a [`VersionedHistory`], which those who ask again keep.
+/// copies the history into a [`VersionedHistory`], which those who ask again keep.
 pub fn groups_of(alloc: Global, history: &History, object: ObjectId) -> Result<Groups, GroupFault>
     ensures groups { IfOk result (λ groups. AreVersions history.now.ops object groups) }
     ensures no_object { result ≡ Err GroupFault.NoObject ↔ (¬ IsMade history.now.ops object) }

@@ -1,23 +1,27 @@
 //! A history with its versions, as those who ask for versions borrow it.
 
-ghost use Rattle.std.specs.Prelude.{◌≡◌, ◌↔◌, Err, IfOk, map};
+ghost use Rattle.std.specs.Prelude.{◌≡◌, ◌↔◌, Err, IfOk, filter_map, map, slice_get};
 ghost use Rattle.gf_ops.specs.ValidHistory.{IsValid};
+ghost use Rattle.gf_classes.specs.ConflictClasses.{AreClassesOf};
 ghost use Rattle.gf_groups.specs.declared.faults.GroupFault.{GroupFault};
+ghost use Rattle.gf_groups.specs.GroupedPositions.{positions_on};
 ghost use Rattle.gf_groups.specs.Versions.{AreVersions, IsMade};
 ghost use Rattle.gf_table.specs.Counting.{IsCount};
-ghost use Rattle.gf_table.specs.Standing.{AreComponentsOn, AreOn, StandsFor};
+ghost use Rattle.gf_table.specs.Standing.{AreOn, StandsFor};
 
 use crate::GroupTable;
-use crate::listing::listed;
-use crate::operations::operations_in;
 use gf_base::OutOfMemory;
-use gf_components::Components;
+use gf_classes::classes_of;
 use gf_groups::{GroupFault, Groups, groups_from, is_made};
+use gf_maximal::Classes;
 use gf_ops::{History, ObjectId, Op};
 use std::alloc::Global;
 use std::marker::Model;
 
-/// A history with the table of its versions, seen as the list of its operations.
+/// Versions are counted up to this number.
+pub const MOST_COUNTED: usize = 1_000;
+
+/// A history with the table of its positions, seen as the list of its operations.
 #[derive(Drop)]
 pub struct Versions<'h> {
     history: &'h History,
@@ -81,33 +85,56 @@ impl<'h> Versions<'h> {
         requires { IsMade self.now object }
         ensures { IfOk result (λ groups. AreVersions self.now object groups) }
     {
-        let components = self.components(alloc, object)?;
-        let sets = listed(alloc, self.history, object, &components)?;
+        let classes = self.classes(alloc, object)?;
+        let sets = classes.sets(alloc)?;
+        let sets = classes.spread_all(alloc, &sets)?;
         groups_from(alloc, self.history, object, sets)
     }
 
     /// How many versions an object has, hidden ones too; 1,001 where there are more than 1,000. No
     /// version is made.
-    pub fn count(&self, object: ObjectId) -> usize
+    pub fn count(&self, alloc: Global, object: ObjectId) -> Result<usize, OutOfMemory>
         requires { IsMade self.now object }
-        ensures { IsCount self.now object result }
+        ensures { IfOk result (λ count. IsCount self.now object count) }
     {
-        self.table.count(self.history, object)
+        // The clause of `history` says that the history is valid.
+        let _ = self.history();
+        let classes = self.classes(alloc, object)?;
+        classes.count(alloc, MOST_COUNTED)
     }
 
-    /// The operations on an object, in no order.
+    /// The operations on an object, in the order of the history.
     pub fn operations(&self, alloc: Global, object: ObjectId) -> Result<Vec<&'h Op>, OutOfMemory>
         ensures { IfOk result (λ found. AreOn self.now object (map (λ a. a.now) found.items)) }
     {
-        let components = self.components(alloc, object)?;
-        operations_in(alloc, self.history, &components)
+        let positions = self.table.positions(alloc, object)?;
+        operations_at(alloc, self.history, &positions)
     }
 
-    /// The components of the operations on an object, by their positions in the history; none where
-    /// there is no operation.
-    pub fn components(&self, alloc: Global, object: ObjectId) -> Result<Components, OutOfMemory>
-        ensures { IfOk result (λ found. AreComponentsOn self.now object found) }
+    /// The classes of the operations on an object, by their positions in the history.
+    pub fn classes(&self, alloc: Global, object: ObjectId) -> Result<Classes, OutOfMemory>
+        ensures { IfOk result (λ found. AreClassesOf self.now (positions_on self.now object) found) }
     {
-        self.table.components(alloc, self.history, object)
+        let positions = self.table.positions(alloc, object)?;
+        classes_of(alloc, self.history, object, &positions)
     }
+}
+
+/// The operations at these positions.
+fn operations_at<'h>(
+    alloc: Global,
+    history: &'h History,
+    positions: &[usize],
+) -> Result<Vec<&'h Op>, OutOfMemory>
+    ensures { IfOk result (λ found. map (λ a. a.now) found.items
+        ≡ filter_map (slice_get history.now.ops) positions.now) }
+{
+    let ops = history.ops();
+    let mut found = Vec::new(alloc);
+    for position in positions {
+        if let Some(op) = ops.get(*position) {
+            found.push(op)?;
+        }
+    }
+    Ok(found)
 }

@@ -179,7 +179,7 @@ fn restore(
     if !is_made(base.history(), object) {
         return Ok(());
     }
-    if MOST_VERSIONS < base.versions().count(object) {
+    if MOST_VERSIONS < base.versions().count(alloc, object)? {
         return Ok(());
     }
     let versions = match versions_with(alloc, &base.versions(), object) {

@@ -17,7 +17,7 @@ use gf_fig_named::{Named, read_names};
 use gf_fig_read::read_fig;
 use gf_figures::Drawing;
 use gf_import::{start_fault, start_of};
-use gf_ops::{Clock, History};
+use gf_ops::Clock;
 use gf_replay::read_replica;
 use gf_run::StudioError;
 use gf_shape::{OutOfMemory, Outline};
@@ -33,7 +33,7 @@ pub(crate) fn read_lines<T: Threads + Sync>(
     lines: Vec<u8>,
     request: TakeRequest,
     workers: u8,
-) -> Result<Site<History>, TakeRunError>
+) -> Result<Site, TakeRunError>
     requires site { IsSite request.site }
     requires workers { (1 ≤ workers) × (workers ≤ 16) }
     ensures ok { IfOk result (λ x. DenotesLines request.site lines.items x.ops) }

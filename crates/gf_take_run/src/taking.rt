@@ -80,7 +80,7 @@ fn take_parts<T: Threads + Sync>(
 /// What a site takes of a drawing.
 fn take_drawing(
     alloc: Global,
-    taker: &Site<History>,
+    taker: &Site,
     fig: &[u8],
     drawn: &ReadDrawing,
     request: TakeRequest,

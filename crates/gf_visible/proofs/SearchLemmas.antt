@@ -16,7 +16,19 @@ use Rattle.gf_maximal.proofs.MaximalLemmas.{Within, intersects_one, intersects_f
 use Rattle.gf_maximal.proofs.MaximalLemmas.{Contains-without}
 use Rattle.gf_visible.specs.Choices.{StepState, holds, all_hold, choices, answers, first, second}
 use Rattle.gf_visible.specs.PendingChoices.{ChoiceState, all_answers, weight_of}
-use Rattle.gf_visible.proofs.PassingLemmas.{drop_next}
+
+-- ---- the rest of a list
+
+drop_at : {X : Type 0} (xs : List X) (i : ℕ) (d : X) → i < length xs
+    → drop i xs ≡ get_or xs i d ∷ drop (suc i) xs
+drop_at [] i d l = absurd (omega arith)
+drop_at (x ∷ xs) zero d l = refl
+drop_at (x ∷ xs) (suc i) d l = drop_at xs i d (omega arith)
+
+pub drop_next : {X : Type 0} (xs : List X) (i : ℕ) (d : X) → i < length xs
+    → drop i xs ≡ get_or xs i d ∷ drop (i + 1) xs
+drop_next xs i d l = let e : suc i ≡ i + 1 = omega arith in
+    subst (λ n. drop i xs ≡ get_or xs i d ∷ drop n xs) e (drop_at xs i d l)
 
 -- ---- what is possible shrinks
 

@@ -22,7 +22,8 @@ use Rattle.gf_groups.specs.Growing.{conflict_at}
 use Rattle.gf_groups.proofs.ConflictTestLemmas.{before_decided}
 use Rattle.gf_groups.proofs.OnPositionLemmas.{conflict_from, on_from}
 use Rattle.gf_groups.specs.Growing.{both_before}
-use Rattle.gf_visible.specs.ShownAt.{shown_by, op_says, said_at, shows_or_hides_at}
+use Rattle.gf_classes.specs.Hiding.{shown_by}
+use Rattle.gf_visible.specs.ShownAt.{op_says, said_at, shows_or_hides_at}
 use Rattle.gf_visible.specs.ShownAt.{shows_at, later_at}
 
 -- ---- one operation

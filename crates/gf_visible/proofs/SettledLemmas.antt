@@ -15,7 +15,8 @@ use Rattle.gf_ops.proofs.ValidityLemmas.{same_op}
 use Rattle.gf_groups.specs.GroupedPositions.{rising_ids}
 use Rattle.gf_groups.proofs.IdPositionLemmas.{Contains-rising_ids}
 use Rattle.gf_base.proofs.PositionLemmas.{contained_at}
-use Rattle.gf_visible.specs.ShownAt.{shown_by, said_at, shows_or_hides_at, later_at}
+use Rattle.gf_classes.specs.Hiding.{shown_by}
+use Rattle.gf_visible.specs.ShownAt.{said_at, shows_or_hides_at, later_at}
 use Rattle.gf_visible.specs.ShownSets.{ShowsSomewhere}
 use Rattle.gf_visible.proofs.SetterLemmas.{same_given, value_from, said_from, said_to, says_yes}
 use Rattle.gf_visible.proofs.SetterLemmas.{said_op, setter_later, told, from_told, one_op}

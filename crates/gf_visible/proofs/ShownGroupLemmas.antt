@@ -12,13 +12,14 @@ use Rattle.gf_ops.specs.ValidHistory.{IsValid}
 use Rattle.gf_base.proofs.ListLemmas.{Contains-map, Contains-map_from}
 use Rattle.gf_groups.specs.declared.group.Group.{Group}
 use Rattle.gf_groups.specs.GroupedPositions.{is_on, positions_on, rising_ids, group_at}
-use Rattle.gf_groups.specs.Growing.{conflict_at, groups_at}
+use Rattle.gf_groups.specs.Growing.{conflict_at}
 use Rattle.gf_maximal.specs.LargestSets.{IsRising, AreLargestSets}
 use Rattle.gf_groups.specs.Versions.{IsMade, IsVersionGroup}
 use Rattle.gf_groups.proofs.GroupLemmas.{groups_exactly, same_group_at}
 use Rattle.gf_groups.proofs.OnPositionLemmas.{all_positions}
 use Rattle.gf_groups.proofs.PositionLemmas.{positions_on-rising}
-use Rattle.gf_groups.proofs.LargestGroupLemmas.{conflict_at_test, largest_groups}
+use Rattle.gf_groups.proofs.LargestGroupLemmas.{conflict_at_test}
+use Rattle.gf_maximal.proofs.ListingLemmas.{largest_sets}
 use Rattle.gf_base.proofs.PairLemmas.{AllPairs-map}
 use Rattle.gf_groups.proofs.VersionLemmas.{version_of_largest}
 use Rattle.gf_visible.specs.ShownSets.{IsShownSet, AreShownSets, HasMoreSets}
@@ -44,11 +45,14 @@ module _ (h : List Op) (valid : IsValid h) (o : ObjectId) (made : IsMade h o) wh
   rises : IsRising us
   rises = positions_on-rising h o
 
+  all_sets : (gs : List (List ℕ)) × AreLargestSets (conflict_at h) us gs
+  all_sets = largest_sets (conflict_at h) (conflict_at_test h) us rises
+
   abbrev groups : List (List ℕ)
-  groups = groups_at (conflict_at h) us
+  groups = all_sets.0
 
   table : AreLargestSets (conflict_at h) us groups
-  table = largest_groups (conflict_at h) (conflict_at_test h) us rises
+  table = all_sets.1
 
   visible : (q : List ℕ) → IsShownSet h us q → IsVisibleGroup h (group_at h o q)
   visible q s =

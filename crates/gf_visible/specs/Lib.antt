@@ -1,12 +1,9 @@
-pub mod Deciding
 pub mod ShownAt
-pub mod ShownSets
 pub mod ShownVersions
 pub mod VisibleSoFar
 pub mod Choices
-pub mod Cuts
-pub mod OnePass
-pub mod TwoSides
-pub mod SettersAt
-pub mod Passing
 pub mod PendingChoices
+pub mod ShownSets
+pub mod ClassSays
+pub mod Seen
+pub mod ClassListing

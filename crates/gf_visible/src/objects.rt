@@ -18,10 +18,10 @@ use std::alloc::Global;
 /// The groups of the visible versions of an object that the history made, each once. None where
 /// they are more than `most`.
 ///
-/// Choices that do not decide whether a version shows are counted first. They are multiplied out
-/// only where some version shows, and at most `most` do. Where an operation hid the object and
-/// knows all others, the call costs a pass over its operations. The choices that decide are found
-/// in one pass where there is no aim among them, and else by a search. Either stops beyond `most`.
+/// The operations are first put into classes with the same rivals. Sets of classes grow class by
+/// class, and those that can't show any more are dropped, so the call stops beyond `most`. Where
+/// aims join what hides with what shows, a search over the classes that decide comes first. No time
+/// is promised for it.
 pub fn visible_groups(
     alloc: Global,
     versions: &Versions<'_>,
@@ -36,8 +36,8 @@ pub fn visible_groups(
     ensures more { IfOk result (λ found. IfNone found (HasMoreOn versions.now object most)) }
 {
     let history = versions.history();
-    let components = versions.components(alloc, object)?;
-    let Some(sets) = shown_sets(alloc, history, object, &components, most)? else {
+    let classes = versions.classes(alloc, object)?;
+    let Some(sets) = shown_sets(alloc, history, object, &classes, most)? else {
         return Ok(None);
     };
     let mut groups = Vec::new(alloc);

@@ -63,8 +63,8 @@ fn groups_to_rank(alloc: Global, versions: &Versions<'_>) -> Result<Vec<Group>, 
 /// The visible versions of a history, topmost first, if they are at most `most`; None where they
 /// are more.
 ///
-/// The call stops as soon as it has seen more. Choices that are not listed are not multiplied out,
-/// as in [`visible_groups`](crate::visible_groups).
+/// The call stops as soon as it has seen more. Sets that can't show are dropped, as in
+/// [`visible_groups`](crate::visible_groups).
 pub fn ranked_within(
     alloc: Global,
     versions: &Versions<'_>,

@@ -7,7 +7,6 @@ ghost use Rattle.gf_table.specs.Standing.{StandsFor};
 use crate::examples::{BOX, TWO_COLOURS, are_groups, site};
 use crate::trial::{Came, Marks};
 use gf_causal::{OfferFault, Offered};
-use gf_components::{Component, Components};
 use gf_ops::{History, ObjectId, Op};
 use gf_replicas::{Event, World};
 use gf_shape::OutOfMemory;
@@ -23,7 +22,6 @@ author
 held_ops
 site_copy
 table_add may do without
-components may do without
 table_copy
 world_run
 ";
@@ -37,7 +35,6 @@ pub(crate) fn tried(alloc: Global, name: &str, marks: &mut Marks) -> Option<Came
         "held_ops" => held_ops(alloc, marks),
         "site_copy" => site_copy(alloc, marks),
         "table_add" => table_add(alloc, marks),
-        "components" => components(alloc, marks),
         "table_copy" => table_copy(alloc, marks),
         "world_run" => world_run(alloc, marks),
         _ => return None,
@@ -178,35 +175,6 @@ fn has_two(alloc: Global, history: &History, table: &GroupTable) -> bool
         table.groups(alloc, history, ObjectId(BOX)),
         TWO_GROUPS,
     )
-}
-
-fn components(alloc: Global, marks: &mut Marks) -> Option<Came> {
-    let site = site(alloc, TWO_COLOURS)?;
-    marks.begin();
-    let first = site.versions().components(alloc, ObjectId(BOX));
-    marks.end();
-    Some(match first {
-        Err(OutOfMemory) => {
-            let next = site.versions().components(alloc, ObjectId(BOX));
-            Came::after_memory(true, are_parted(next))
-        }
-        first => Came::first(are_parted(first)),
-    })
-}
-
-/// Whether the creation is free, and the two colours are a component of two sets.
-fn are_parted(answer: Result<Components, OutOfMemory>) -> bool {
-    match answer {
-        Ok(found) => found.free().has(0) && is_pair(found.components()),
-        Err(OutOfMemory) => false,
-    }
-}
-
-fn is_pair(components: &[Component]) -> bool {
-    match components {
-        [both] => { both.all().has(1) && both.all().has(2) && matches!(both.sets(), Some([_, _])) }
-        _ => false,
-    }
 }
 
 fn table_copy(alloc: Global, marks: &mut Marks) -> Option<Came> {

@@ -19,6 +19,7 @@ groups_of may do without
 versioned may do without
 table_groups may do without
 visible_groups may do without
+versions_count may do without
 settle
 ranked may do without
 ranked_with may do without
@@ -39,6 +40,7 @@ pub(crate) fn tried(alloc: Global, name: &str, marks: &mut Marks) -> Option<Came
         "versioned" => versioned(alloc, marks),
         "table_groups" => table_groups(alloc, marks),
         "visible_groups" => visible_groups(alloc, marks),
+        "versions_count" => versions_count(alloc, marks),
         "settle" => settle(alloc, marks),
         "ranked" => ranked(alloc, marks),
         "ranked_with" => ranked_with(alloc, marks),
@@ -139,6 +141,24 @@ fn are_visible(alloc: Global, answer: Result<Option<Vec<Group>>, OutOfMemory>) -
         Ok(Some(groups)) => are_told(alloc, groups.as_slice(), THEIR_GROUPS),
         _ => false,
     }
+}
+
+fn versions_count(alloc: Global, marks: &mut Marks) -> Option<Came> {
+    let site = site(alloc, THREE_SETTERS)?;
+    let object = ObjectId(BOX);
+    if !is_made(site.history(), object) {
+        return None;
+    }
+    marks.begin();
+    let first = site.versions().count(alloc, object);
+    marks.end();
+    Some(match first {
+        Err(OutOfMemory) => {
+            let next = site.versions().count(alloc, object);
+            Came::after_memory(true, matches!(next, Ok(2)))
+        }
+        first => Came::first(matches!(first, Ok(2))),
+    })
 }
 
 fn settle(alloc: Global, marks: &mut Marks) -> Option<Came> {

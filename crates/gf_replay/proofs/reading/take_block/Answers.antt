@@ -7,7 +7,7 @@ use Rattle.gf_replay.proofs.ReadingLemmas.{RefusesText-first}
 use Rattle.gf_replay.proofs.reading.take_block.Goals as goal
 
 pub loop-reading-preserved : goal.loop-reading-preserved
-loop-reading-preserved g c =
+loop-reading-preserved c =
     let steps = c.in-Some.ensures.steps.0 in
     record {
       block = AreOfLines-rest c.in-Some.reading _ (rw steps at c.loop-reading.invariant.block);
@@ -18,7 +18,7 @@ loop-reading-preserved g c =
     }
 
 pub returns-in_err-take_reading : goal.returns-in_err-take_reading
-returns-in_err-take_reading g c =
+returns-in_err-take_reading c =
     let steps = c.in-Some.ensures.steps.0 in
     let p = err_from_is_err_and c.from_residual.result c.from_residual.ensures.1 in
     rw p.1 (record {
@@ -31,7 +31,7 @@ returns-in_err-take_reading g c =
     })
 
 pub returns : goal.returns
-returns g c = record {
+returns c = record {
   ok = λ text others whole.
       let none : length (into_iter_items c.loop-reading.reading-iterator) ≡ 0 = search rules in
       HasRead-block text _ others c.loop-reading.replica none

@@ -5,7 +5,7 @@ use Rattle.gf_replay.proofs.reading.take_block.Given as goal
 
 -- what is left of the block comes behind what was taken
 abbrev pub invariant-loop-reading : goal.invariant-loop-reading
-invariant-loop-reading g l = record {
+invariant-loop-reading l = record {
   block : AreOfLines (into_iter_items l.reading-iterator);
   before : (text : List ℕ) (others : List (ℕ × List ℕ))
       → IsBefore text l.fn.readings.items others l.fn.replica

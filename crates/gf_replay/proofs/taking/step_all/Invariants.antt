@@ -3,7 +3,7 @@ use Rattle.gf_replay.specs.Taking.{KeepsAll}
 use Rattle.gf_replay.proofs.taking.step_all.Given as goal
 
 abbrev pub invariant-loop-id : goal.invariant-loop-id
-invariant-loop-id g l = KeepsAll l.initial.replica l.replica
+invariant-loop-id l = KeepsAll l.initial.replica l.replica
 
 abbrev pub decreases-loop-id : goal.decreases-loop-id
-decreases-loop-id g l = length l.replica.held
+decreases-loop-id l = length l.replica.held

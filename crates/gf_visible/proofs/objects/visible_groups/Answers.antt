@@ -1,8 +1,8 @@
 use Rattle.std.proofs.Common.{sym, subst}
 use Rattle.std.proofs.lemmas.List.{length-map}
+use Rattle.gf_classes.specs.ConflictClasses.{AreClassesOf}
 use Rattle.gf_groups.specs.GroupedPositions.{positions_on}
 use Rattle.gf_groups.specs.Versions.{IsMade}
-use Rattle.gf_table.specs.Standing.{AreComponentsOn}
 use Rattle.gf_visible.proofs.ShownGroupLemmas.{more_on, sets_rise, visible_on}
 use Rattle.gf_visible.proofs.objects.visible_groups.Goals as goal
 
@@ -32,10 +32,10 @@ returns-clause-few c =
     let listed = rw c.in-Some.is at c.in_ok-sets.ensures in
     rw (c.in_ok-add_groups.ensures, c.new-groups.ensures.items, length-map) listed.1
 
-pub shown_sets-requires-clause-on : goal.shown_sets-requires-clause-on
-shown_sets-requires-clause-on c = subst
-    (λ h. AreComponentsOn h c.args.object c.in_ok-components.components)
-    (sym c.history-history.ensures.ops) c.in_ok-components.ensures
+pub shown_sets-requires-clause-classes : goal.shown_sets-requires-clause-classes
+shown_sets-requires-clause-classes c = subst
+    (λ h. AreClassesOf h (positions_on h c.args.object) c.in_ok-classes.classes)
+    (sym c.history-history.ensures.ops) c.in_ok-classes.ensures
 
 pub shown_sets-requires-clause-made : goal.shown_sets-requires-clause-made
 shown_sets-requires-clause-made c = subst (λ h. IsMade h c.args.object)

@@ -7,16 +7,16 @@ use Rattle.gf_site.proofs.StepLemmas.{refused_by}
 use Rattle.gf_site.proofs.replica.Replica.step.Goals as goal
 
 pub returns-in_default-clause-ok : goal.returns-in_default-clause-ok
-returns-in_default-clause-ok g c = rw (← c.self.view_is) (
-  subst (λ h. NoneIsReady h c.self.inside.buffer) c.history-history.ensures
+returns-in_default-clause-ok c = rw (← c.self.view_is) (
+  subst (λ h. NoneIsReady h c.self.inside.buffer) c.history-history.ensures.ops
       c.in_default.ensures.none,
   refl,
 )
 
 pub returns-in-Err-clause-ok : goal.returns-in-Err-clause-ok
-returns-in-Err-clause-ok g c =
+returns-in-Err-clause-ok c =
     let h = c.history-history.result.now.ops in
-    let same = c.history-history.ensures in
+    let same = c.history-history.ensures.ops in
     let a = c.in-Some.op.now in
     let first = c.in-Some.ensures.found in
     let taken = c.take.ensures.held a first.contained refl in
@@ -36,10 +36,10 @@ returns-in-Err-clause-ok g c =
     })
 
 pub returns-in_err-copy-clause-out_of_memory : goal.returns-in_err-copy-clause-out_of_memory
-returns-in_err-copy-clause-out_of_memory g c =
+returns-in_err-copy-clause-out_of_memory c =
     let p = err_from_is_err_and c.from_residual.result c.from_residual.ensures.1 in
     let a = c.in-Some.op.now in
-    let same = c.history-history.ensures in
+    let same = c.history-history.ensures.ops in
     rw (p.1, ← c.self.view_is)
     (record {
       op = a;
@@ -48,9 +48,9 @@ returns-in_err-copy-clause-out_of_memory g c =
     })
 
 pub returns-clause-ok : goal.returns-clause-ok
-returns-clause-ok g c =
-    let h = g.H.GrowingHistory.ops c.self.inside.history in
-    let same = c.history-history.ensures in
+returns-clause-ok c =
+    let h = c.self.inside.history in
+    let same = c.history-history.ensures.ops in
     let a = c.in-Some.op.now in
     let first = c.in-Some.ensures.found in
     let taken = c.take-2.ensures.held a first.contained refl in

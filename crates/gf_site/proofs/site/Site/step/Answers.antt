@@ -6,7 +6,7 @@ use Rattle.gf_site.specs.Events.{Steps}
 use Rattle.gf_site.proofs.site.Site.step.Goals as goal
 
 pub returns-clause-ok : goal.returns-clause-ok
-returns-clause-ok g c =
+returns-clause-ok c =
     let n = c.self.inside.number in
     let x = c.self.inside.replica in
     let y = c.step.new.self in

@@ -1,9 +1,8 @@
-use Rattle.std.proofs.Common.{ap, ◌∙◌}
+use Rattle.std.proofs.Common.{ℕ, List, ap, ◌∙◌}
 use Rattle.std.specs.BTreeMap.{insert_entry}
 use Rattle.std.specs.List.Sorted.{IsStrictlySortedBy}
 use Rattle.std.specs.Map.{keys_of}
 use Rattle.gf_ops.proofs.EntryLemmas.{copied_more}
-use Rattle.gf_table.specs.ObjectState.{ObjectState}
 use Rattle.gf_table.specs.Standing.{object_cmp}
 use Rattle.gf_table.proofs.StandsLemmas.{object_cmp_total}
 use Rattle.gf_table.proofs.table.GroupTable.copy.Goals as goal
@@ -14,9 +13,9 @@ loop-object-preserved c =
     let sorted : IsStrictlySortedBy object_cmp (keys_of c.into_iter-object-iterator.result) =
     rw gives.0 gives.5 in
     let made = c.in_ok-put.ensures.ok
-    ∙ ap (λ (s : ObjectState). insert_entry object_cmp c.loop-object.objects.entries
-    c.in-Some.object.now s) c.in_ok-state.ensures in
+    ∙ ap (λ (s : List ℕ). insert_entry object_cmp c.loop-object.objects.entries
+    c.in-Some.object.now s) c.in_ok-positions.ensures in
     copied_more object_cmp object_cmp_total c.loop-object.objects.entries c.put.new.objects.entries
-    c.into_iter-object-iterator.result c.in-Some.object.now c.in-Some.state.now c.next.new.self
+    c.into_iter-object-iterator.result c.in-Some.object.now c.in-Some.positions.now c.next.new.self
     c.loop-object.object-iterator
     sorted made c.in-Some.ensures.steps c.loop-object.invariant

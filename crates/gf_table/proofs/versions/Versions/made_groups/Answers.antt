@@ -1,17 +1,17 @@
-use Rattle.std.proofs.Common.{subst, sym}
-use Rattle.gf_groups.specs.Growing.{conflict_at}
+use Rattle.std.proofs.Common.{ap, map, subst, sym, ◌∙◌}
+use Rattle.gf_classes.specs.ConflictClasses.{AreClassesOf}
 use Rattle.gf_groups.specs.GroupedPositions.{positions_on}
-use Rattle.gf_maximal.specs.LargestSets.{AreLargestSets}
-use Rattle.gf_table.specs.Standing.{AreComponentsOn}
-use Rattle.gf_table.proofs.ListedLemmas.{sets_listed}
+use Rattle.gf_maximal.specs.Classes.{spread}
+use Rattle.gf_table.proofs.CountingLemmas.{sets_spread}
 use Rattle.gf_table.proofs.versions.Versions.made_groups.Goals as goal
 
 pub groups_from-requires-clause-table : goal.groups_from-requires-clause-table
 groups_from-requires-clause-table c =
     let h = c.self.inside.history.now.ops in
     let o = c.args.object in
-    let found = c.in_ok-components.components in
-    let on = subst (λ h. AreComponentsOn h o found) (sym c.self.view_is)
-    c.in_ok-components.ensures in
-    subst (AreLargestSets (conflict_at h) (positions_on h o)) (sym c.in_ok-sets.ensures)
-    (sets_listed h o found on)
+    let s = c.in_ok-classes.classes in
+    let classes = subst (λ h. AreClassesOf h (positions_on h o) s) (sym c.self.view_is)
+    c.in_ok-classes.ensures in
+    sets_spread h o s classes c.in_ok-sets.sets.items c.in_ok-sets-2.sets.items
+    c.in_ok-sets.ensures
+    (c.in_ok-sets-2.ensures ∙ ap (map (spread s)) c.deref.ensures.value)

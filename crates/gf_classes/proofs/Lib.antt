@@ -1,0 +1,13 @@
+pub mod OwnConflictLemmas
+pub mod OwnLemmas
+pub mod ClassRowLemmas
+pub mod ClassSlotLemmas
+pub mod ClassesLemmas
+pub mod FingerprintLemmas
+pub mod RangeLemmas
+pub mod SetterLemmas
+pub mod SameValueLemmas
+pub mod EqualLemmas
+pub mod RivalLemmas
+pub mod KindLemmas
+pub mod DirectLemmas

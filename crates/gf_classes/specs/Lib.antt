@@ -1,0 +1,12 @@
+pub mod Hiding
+pub mod Direct
+pub mod ConflictClasses
+pub mod Own
+pub mod ClassSlots
+pub mod ClassRows
+pub mod Fingerprints
+pub mod Setters
+pub mod Ranges
+pub mod SameValues
+pub mod Rivals
+pub mod Kinds

@@ -1,6 +1,0 @@
-pub mod ProductLemmas
-pub mod CountLemmas
-pub mod ComponentLemmas
-pub mod AgreeLemmas
-pub mod OneTouchedLemmas
-pub mod ReachLemmas

@@ -1,7 +1,0 @@
-use Rattle.std.proofs.Common.{◌≡◌, map, take}
-use Rattle.std.specs.Prelude.{filter_map, slice_get}
-use Rattle.gf_table.proofs.operations.operations_in.Given as goal
-
-abbrev pub invariant-loop-position : goal.invariant-loop-position
-invariant-loop-position l = map (λ a. a.now) l.found.items
-    ≡ filter_map (slice_get l.history.ops) (take l.position-index l.position-items)

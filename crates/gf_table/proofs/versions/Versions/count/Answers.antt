@@ -1,0 +1,8 @@
+use Rattle.std.proofs.lemmas.Result.{IfOk-weaker}
+use Rattle.gf_table.proofs.CountingLemmas.{count_told}
+use Rattle.gf_table.proofs.versions.Versions.count.Goals as goal
+
+pub returns : goal.returns
+returns c = IfOk-weaker c.count.result _ _
+    (λ n counted. count_told c.args.self.now c.args.object c.in_ok-classes.classes
+    c.in_ok-classes.ensures c.history.ensures.valid c.requires n counted) c.count.ensures

@@ -1,8 +1,0 @@
-use Rattle.std.proofs.Common.{◌≡◌, not, take}
-use Rattle.std.specs.Prelude.{filter}
-use Rattle.gf_visible.specs.ShownAt.{later_at}
-use Rattle.gf_visible.proofs.deciding.taken.Given as goal
-
-abbrev pub invariant-loop-last : goal.invariant-loop-last
-invariant-loop-last l = l.more.items ≡ filter (λ i. not (later_at l.history.ops i l.position))
-    (take l.last-index l.lasts)

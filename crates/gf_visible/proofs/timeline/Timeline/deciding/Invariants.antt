@@ -1,0 +1,7 @@
+use Rattle.std.proofs.Common.{◌≡◌, filter, take}
+use Rattle.gf_visible.specs.ClassSays.{is_deciding}
+use Rattle.gf_visible.proofs.timeline.Timeline.deciding.Given as goal
+
+abbrev pub invariant-loop-class : goal.invariant-loop-class
+invariant-loop-class l = l.found.items
+    ≡ filter (is_deciding l.self.rows l.self.says l.hiders) (take l.class-index l.classes)
