@@ -22,7 +22,7 @@ use Rattle.gf_ops.specs.KnownObject.{IsSuited}
 use Rattle.gf_ops.specs.OperationOrder.{Precedes}
 use Rattle.gf_ops.specs.ValidHistory.{IsValid}
 use Rattle.gf_ops.proofs.DirectConflictLemmas.{direct-sym}
-use Rattle.gf_groups.specs.GroupedPositions.{positions_on}
+use Rattle.gf_table.specs.Positions.{positions_on}
 use Rattle.gf_groups.specs.VersionList.{in_direct_conflict}
 use Rattle.gf_groups.proofs.ConflictTestLemmas.{direct_decided}
 use Rattle.gf_classes.specs.declared.setters.Setter.{Setter}

@@ -17,7 +17,7 @@ use Rattle.gf_ops.proofs.ConflictLemmas.{conflict_irreflexive}
 use Rattle.gf_ops.proofs.DirectConflictLemmas.{direct-sym}
 use Rattle.gf_ops.proofs.ValidityLemmas.{same_op}
 use Rattle.gf_groups.specs.Growing.{conflict_at}
-use Rattle.gf_groups.specs.GroupedPositions.{is_on}
+use Rattle.gf_table.specs.Positions.{is_on}
 use Rattle.gf_groups.proofs.ConflictTestLemmas.{direct_decided}
 use Rattle.gf_groups.proofs.OnPositionLemmas.{on_to, on_op, position_of_op, conflict_from}
 use Rattle.gf_groups.proofs.OnPositionLemmas.{conflict_with, all_positions}

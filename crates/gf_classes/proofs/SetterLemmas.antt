@@ -21,7 +21,7 @@ use Rattle.gf_ops.specs.OperationOrder.{entry}
 use Rattle.gf_ops.specs.ValidHistory.{IsValid, IsWithin}
 use Rattle.gf_ops.proofs.AttributeLemmas.{attribute_index_below}
 use Rattle.gf_ops.proofs.HistoryLemmas.{site_in_range, seq_in_range}
-use Rattle.gf_groups.specs.GroupedPositions.{positions_on}
+use Rattle.gf_table.specs.Positions.{positions_on}
 use Rattle.gf_groups.proofs.OnPositionLemmas.{on_op, all_positions}
 use Rattle.gf_groups.proofs.IdPositionLemmas.{same_position}
 use Rattle.gf_classes.specs.declared.setters.Setter.{Setter}

@@ -2,7 +2,7 @@
 
 ghost use Rattle.std.specs.Prelude.{◌≡◌, ◌+◌, ◌^◌, ◌<◌, [], length, All, IfOk, OnOk};
 ghost use Rattle.std.specs.Prelude.{IfSome, Contains, Some, slice_index_or};
-ghost use Rattle.gf_groups.specs.GroupedPositions.{positions_on};
+ghost use Rattle.gf_table.specs.Positions.{positions_on};
 ghost use Rattle.gf_classes.specs.ConflictClasses.{AreClassesOf};
 ghost use Rattle.gf_classes.specs.Own.{AreGiven};
 ghost use Rattle.gf_classes.specs.ClassSlots.{AreCalm, AreMembers, AreSlots, IsCalm, IsOwnSlot};

@@ -1,7 +1,7 @@
 //! Direct classes: the operations on an object by those that they conflict with directly.
 
 ghost use Rattle.std.specs.Prelude.{◌≡◌, ◌↔◌, ◌<◌, ◌^◌, IfOk, length, Contains};
-ghost use Rattle.gf_groups.specs.GroupedPositions.{positions_on};
+ghost use Rattle.gf_table.specs.Positions.{positions_on};
 ghost use Rattle.gf_classes.specs.Direct.{AreDirect};
 ghost use Rattle.gf_classes.specs.Kinds.{AreRising, IsFirstFrom, IsMet, IsAmong, AreRowsOf};
 ghost use Rattle.gf_classes.specs.Kinds.{put_class, kind_fingerprints, ButFor};

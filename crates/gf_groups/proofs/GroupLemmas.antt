@@ -18,9 +18,10 @@ use Rattle.gf_base.proofs.ListLemmas.{Contains-map, Contains-map_from}
 use Rattle.gf_groups.specs.declared.group.Group.{Group}
 use Rattle.gf_groups.specs.Versions.{IsMade, IsVersionGroup, AreVersions, group_cmp}
 use Rattle.gf_groups.specs.Growing.{conflict_at}
-use Rattle.gf_groups.specs.GroupedPositions.{is_on, rising_ids, group_at}
+use Rattle.gf_groups.specs.GroupedPositions.{rising_ids, group_at}
+use Rattle.gf_table.specs.Positions.{is_on}
 use Rattle.gf_maximal.specs.LargestSets.{IsRising, AreLargestSets}
-use Rattle.gf_groups.proofs.IdLemmas.{id_cmp_total, id_cmp_exact}
+use Rattle.gf_ops.proofs.IdLemmas.{id_cmp_total, id_cmp_exact}
 use Rattle.gf_groups.proofs.IdPositionLemmas.{Contains-rising_ids, same_position}
 use Rattle.gf_groups.proofs.OnPositionLemmas.{on_op}
 use Rattle.gf_base.proofs.RisingLemmas.{one_rising}

@@ -19,7 +19,7 @@ use Rattle.gf_base.proofs.ListLemmas.{Contains-cons_cases, Contains-cons_head, C
 use Rattle.gf_base.proofs.ListLemmas.{not_Contains-nil}
 use Rattle.gf_groups.specs.GroupedPositions.{ids_at, rising_ids}
 use Rattle.gf_maximal.specs.LargestSets.{IsRising}
-use Rattle.gf_groups.proofs.IdLemmas.{id_cmp_total, id_cmp_exact}
+use Rattle.gf_ops.proofs.IdLemmas.{id_cmp_total, id_cmp_exact}
 use Rattle.gf_base.proofs.RisingLemmas.{below_from_less, below_tail, rising_nil}
 use Rattle.gf_base.proofs.InsertLemmas.{inserted_all, holds_all}
 use Rattle.gf_groups.proofs.SortedLemmas.{same_sorted}

@@ -1,6 +1,5 @@
 pub mod ConflictTestLemmas
 pub mod GroupLemmas
-pub mod IdLemmas
 pub mod IdPositionLemmas
 pub mod OnPositionLemmas
 pub mod PositionLemmas

@@ -14,9 +14,10 @@ use Rattle.gf_ops.specs.Attribute.{Kind, made_kind, object_of, changed_object}
 use Rattle.gf_ops.specs.Conflict.{Conflict}
 use Rattle.gf_ops.specs.ValidHistory.{IsValid}
 use Rattle.gf_ops.proofs.ConflictLemmas.{conflict_irreflexive}
-use Rattle.gf_groups.specs.GroupedPositions.{is_on, positions_on}
+use Rattle.gf_table.specs.Positions.{is_on, positions_on}
 use Rattle.gf_groups.specs.Growing.{both_conflict, conflict_at}
-use Rattle.gf_groups.proofs.ConflictTestLemmas.{id_decided, conflict_decided}
+use Rattle.gf_table.proofs.StandsLemmas.{tied_is_one, tied_with_itself}
+use Rattle.gf_groups.proofs.ConflictTestLemmas.{conflict_decided}
 use Rattle.gf_groups.proofs.PositionLemmas.{Contains-positions_on}
 
 -- an operation that makes an object is on it
@@ -27,10 +28,10 @@ made_object i (Set o v aim) k e = absurd cc
 
 module _ (o : ObjectId) where
   pub on_from : (a : Op) → is_on o (Some a) ≡ true → object_of a ≡ o
-  on_from a t = let e = (id_decided (object_of a).0 o.0).0 t in λ i. record { 0 = e i }
+  on_from a t = tied_is_one (object_of a) o t
 
   pub on_to : (a : Op) → object_of a ≡ o → is_on o (Some a) ≡ true
-  on_to a e = (id_decided (object_of a).0 o.0).1 (ap (λ (x : ObjectId). x.0) e)
+  on_to a e = tied_with_itself (object_of a) o e
 
   -- what is on the object is an operation
   pub on_op : (r : Option Op) → is_on o r ≡ true → (a : Op) × (r ≡ Some a) × (object_of a ≡ o)

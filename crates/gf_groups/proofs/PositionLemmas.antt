@@ -1,4 +1,4 @@
--- What stands at a position of a list, and the positions of the operations on an object.
+-- The positions of the operations on an object.
 use Rattle.std.proofs.Common.{◌≡◌, ℕ, ◌<◌, ◌≤◌, Bool, true, List, [], length, sym, arith}
 use Rattle.std.proofs.Common.{Bor}
 use Rattle.std.specs.Prelude.{Option, Some, None, MatchOption, IfSome, Contains, ◌↔◌}
@@ -14,15 +14,7 @@ use Rattle.gf_maximal.specs.LargestSets.{IsRising}
 use Rattle.gf_maximal.proofs.RunSetLemmas.{in_range, range_rises}
 use Rattle.gf_ops.specs.declared.op.Op.{Op}
 use Rattle.gf_ops.specs.declared.op.ObjectId.{ObjectId}
-use Rattle.gf_groups.specs.GroupedPositions.{is_on, positions_on}
-
--- what `get` gives
-pub got_all : {X : Type 0} (P : X → Type 0) (xs : List X) (i : ℕ) (r : Option (Bor X))
-    → ((x : X) → Contains xs x → P x)
-    → MatchOption r (length xs ≤ i) (λ x. (i < length xs) × HoldsAt (λ y. x.now ≡ y) xs i)
-    → IfSome r (λ x. P x.now)
-got_all P xs i (Some x) f m = f x.now (i, m.0, sym (m.1 x.now))
-got_all P xs i None f m = tt
+use Rattle.gf_table.specs.Positions.{is_on, positions_on}
 
 module _ (h : List Op) (o : ObjectId) where
   -- the operation at the position i is on the object

@@ -17,7 +17,8 @@ use Rattle.gf_ops.specs.Version.{IsVersion}
 use Rattle.gf_groups.specs.Versions.{IsMade}
 use Rattle.gf_groups.specs.VersionList.{is_in}
 use Rattle.gf_groups.specs.Growing.{conflict_at}
-use Rattle.gf_groups.specs.GroupedPositions.{positions_on, rising_ids}
+use Rattle.gf_groups.specs.GroupedPositions.{rising_ids}
+use Rattle.gf_table.specs.Positions.{positions_on}
 use Rattle.gf_groups.proofs.IdPositionLemmas.{Contains-rising_ids}
 use Rattle.gf_groups.proofs.LargestGroupLemmas.{conflict_at_test}
 use Rattle.gf_groups.proofs.OnPositionLemmas.{all_positions, on_to, position_of_op}

@@ -14,10 +14,11 @@ use Rattle.gf_ops.proofs.ValidityLemmas.{same_op}
 use Rattle.gf_groups.specs.Versions.{IsMade}
 use Rattle.gf_groups.specs.VersionList.{id_eq, is_in}
 use Rattle.gf_groups.specs.Growing.{conflict_at}
-use Rattle.gf_groups.specs.GroupedPositions.{is_on, rising_ids}
+use Rattle.gf_groups.specs.GroupedPositions.{rising_ids}
+use Rattle.gf_table.specs.Positions.{is_on}
 use Rattle.gf_maximal.specs.LargestSets.{IsLargest, IsRising}
 use Rattle.gf_groups.proofs.ConflictTestLemmas.{id_decided}
-use Rattle.gf_groups.proofs.IdLemmas.{id_cmp_total}
+use Rattle.gf_ops.proofs.IdLemmas.{id_cmp_total}
 use Rattle.gf_groups.proofs.IdPositionLemmas.{IsIdAt, Contains-rising_ids, rising_ids-rising}
 use Rattle.gf_base.proofs.FilterLemmas.{Contains-filter, list_any_true, list_any_from}
 use Rattle.gf_groups.proofs.OnPositionLemmas.{made_object, on_from, on_to, on_op, conflict_from}

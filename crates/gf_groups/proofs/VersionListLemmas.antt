@@ -26,7 +26,7 @@ use Rattle.gf_groups.specs.Versions.{IsMade, IsVersionGroup, AreVersions, group_
 use Rattle.gf_groups.specs.VersionList.{id_eq, in_conflict, is_in, ops_on, members, is_compatible}
 use Rattle.gf_groups.specs.VersionList.{is_largest, sublists, ids_on, versions_of}
 use Rattle.gf_groups.proofs.ConflictTestLemmas.{id_decided, conflict_decided}
-use Rattle.gf_groups.proofs.IdLemmas.{id_cmp_total, id_cmp_exact}
+use Rattle.gf_ops.proofs.IdLemmas.{id_cmp_total, id_cmp_exact}
 use Rattle.gf_base.proofs.FilterLemmas.{Contains-filter, list_any_true, list_any_from}
 use Rattle.gf_base.proofs.FilterLemmas.{list_all_true, list_all_from}
 use Rattle.gf_groups.proofs.GroupLemmas.{group_cmp_total}

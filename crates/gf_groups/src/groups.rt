@@ -3,7 +3,7 @@
 ghost use Rattle.std.specs.Prelude.{◌↔◌, IfOk, IsTrue, OnOk};
 ghost use Rattle.std.specs.List.Sorted.{IsPermutation, IsSorted};
 ghost use Rattle.gf_groups.specs.Growing.{conflict_at};
-ghost use Rattle.gf_groups.specs.GroupedPositions.{positions_on};
+ghost use Rattle.gf_table.specs.Positions.{positions_on};
 ghost use Rattle.gf_maximal.specs.LargestSets.{AreLargestSets};
 ghost use Rattle.gf_groups.specs.Versions.{IsMade, AreVersions, group_cmp};
 

@@ -5,23 +5,19 @@
 //!   such list. [`is_made`]: whether the history has the object.
 //! - [`each_operation_stands_in_a_version`], [`the_versions_are_a_list_that_computes`]: the laws.
 //!
-//! For tables of versions:
+//! For those who find versions by positions:
 //!
-//! - [`conflict_at`], [`before_at`]: whether the operations at two positions conflict, or come one
-//!   before the other.
 //! - [`groups_from`]: the groups of an object, from the largest sets of positions without a
 //!   conflict. [`add_groups`] adds such groups to others.
 //! - [`rising_ids`]: the ids of the operations at some positions.
 #![tactic(auto)]
 
-mod conflict;
 mod faults;
 mod group;
 mod groups;
 mod laws;
 mod listing;
 
-pub use conflict::{before_at, conflict_at};
 pub use faults::GroupFault;
 pub use group::{Group, Groups};
 pub use groups::{groups_from, is_made};

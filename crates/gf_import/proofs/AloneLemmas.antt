@@ -23,7 +23,7 @@ use Rattle.gf_ops.specs.ValidHistory.{IsValid}
 use Rattle.gf_ops.specs.Version.{IsVersion}
 use Rattle.gf_base.proofs.ListLemmas.{Contains-cons_cases, Contains-cons_head, not_Contains-nil}
 use Rattle.gf_ops.proofs.ValidityLemmas.{same_op, precedes_irreflexive}
-use Rattle.gf_groups.proofs.IdLemmas.{id_cmp_total}
+use Rattle.gf_ops.proofs.IdLemmas.{id_cmp_total}
 use Rattle.gf_base.proofs.RisingLemmas.{one_rising, rising_cons, rising_nil}
 use Rattle.gf_versions.specs.declared.key.Version.{Version}
 use Rattle.gf_versions.specs.VersionOf.{IsVersionOf}

@@ -16,7 +16,7 @@ use Rattle.gf_ops.specs.ValidHistory.{IsValid}
 use Rattle.gf_base.proofs.ListLemmas.{Contains-map, Contains-map_from}
 use Rattle.gf_groups.specs.declared.group.Group.{Group}
 use Rattle.gf_groups.specs.Versions.{AreVersions, group_cmp}
-use Rattle.gf_groups.proofs.IdLemmas.{id_cmp_total}
+use Rattle.gf_ops.proofs.IdLemmas.{id_cmp_total}
 use Rattle.gf_groups.proofs.SortedLemmas.{equal_left, rising_sorted, ties}
 use Rattle.gf_versions.specs.declared.key.Version.{Version}
 use Rattle.gf_versions.specs.Above.{IsAbove}

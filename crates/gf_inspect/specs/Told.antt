@@ -10,7 +10,7 @@ use Rattle.gf_ops.specs.declared.op.Op.{Op}
 use Rattle.gf_ops.specs.declared.op.OpId.{OpId}
 use Rattle.gf_ops.specs.declared.op.ObjectId.{ObjectId}
 use Rattle.gf_names.specs.Objects.{AreObjects}
-use Rattle.gf_table.specs.Counting.{IsCount}
+use Rattle.gf_listing.specs.Counting.{IsCount}
 use Rattle.gf_versions.specs.declared.key.Version.{Version}
 use Rattle.gf_versions.specs.declared.ranking.TheConstants.{MOST_VERSIONS}
 use Rattle.gf_inspect.specs.declared.top.VersionName.{VersionName}

@@ -11,7 +11,7 @@ use gf_json::Notation;
 use gf_names::objects;
 use gf_ops::ObjectId;
 use gf_shape::{OutOfMemory, Point};
-use gf_table::Versions;
+use gf_listing::Versions;
 use gf_versions::{MOST_VERSIONS, Version};
 use std::alloc::{AllocError, Global};
 

@@ -8,7 +8,7 @@ ghost use Rattle.gf_inspect.specs.TopVersion.{NamesTop, name_of};
 
 use gf_ops::{History, Ids, ObjectId};
 use gf_shape::{AnyShape, OutOfMemory, Point, Shape};
-use gf_table::Versions;
+use gf_listing::Versions;
 use gf_versions::Ranked;
 use gf_visible::{ranked, ranked_all};
 use std::alloc::Global;

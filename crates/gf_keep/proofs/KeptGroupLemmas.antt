@@ -21,7 +21,7 @@ use Rattle.gf_groups.specs.Versions.{IsMade, group_cmp}
 use Rattle.gf_groups.specs.VersionList.{id_eq}
 use Rattle.gf_groups.proofs.ConflictTestLemmas.{id_decided}
 use Rattle.gf_groups.proofs.GroupLemmas.{group_cmp_total}
-use Rattle.gf_groups.proofs.IdLemmas.{id_cmp_exact}
+use Rattle.gf_ops.proofs.IdLemmas.{id_cmp_exact}
 use Rattle.gf_groups.proofs.SortedLemmas.{ties, equal_left, rising_sorted}
 use Rattle.gf_versions.specs.declared.ranking.TheConstants.{MOST_VERSIONS}
 use Rattle.gf_visible.specs.ShownVersions.{AreVisibleOn, HasMoreOn}

@@ -25,7 +25,7 @@ use Rattle.gf_ops.specs.Version.{IsVersion}
 use Rattle.gf_groups.specs.declared.group.Group.{Group}
 use Rattle.gf_groups.specs.Versions.{IsVersionGroup, group_cmp}
 use Rattle.gf_groups.proofs.GroupLemmas.{group_cmp_total}
-use Rattle.gf_groups.proofs.IdLemmas.{id_cmp_total, id_cmp_exact}
+use Rattle.gf_ops.proofs.IdLemmas.{id_cmp_total, id_cmp_exact}
 use Rattle.gf_base.proofs.InsertLemmas.{holds, inserted}
 use Rattle.gf_versions.proofs.SettlingLemmas.{settled_once}
 use Rattle.gf_versions.proofs.VersionLemmas.{some_version}

@@ -13,8 +13,9 @@ ghost use Rattle.gf_keep.specs.KeepSteps.{has_all};
 use crate::Keep;
 use gf_base::OutOfMemory;
 use gf_groups::Group;
+use gf_listing::Versions;
 use gf_ops::{History, OpId};
-use gf_table::{VersionedHistory, Versions};
+use gf_table::IndexedHistory;
 use gf_versions::MOST_VERSIONS;
 use gf_visible::visible_groups;
 use std::alloc::Global;
@@ -34,11 +35,11 @@ pub(crate) fn kept_groups(
     ensures more { IfOk result (λ found.
         IfNone found (HasMoreOn history.now.ops keep.now.object MOST_VERSIONS)) }
 {
-    let versioned = VersionedHistory::of(alloc, history)?;
-    kept_of(alloc, &versioned.versions(), keep)
+    let indexed = IndexedHistory::of(alloc, history)?;
+    kept_of(alloc, &Versions::of(&indexed), keep)
 }
 
-/// The same, of a history with its versions.
+/// The same, of a history with its table.
 fn kept_of(
     alloc: Global,
     versions: &Versions<'_>,

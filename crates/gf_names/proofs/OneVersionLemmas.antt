@@ -7,7 +7,7 @@ use Rattle.gf_base.proofs.FilterLemmas.{list_any_true, list_any_false}
 use Rattle.gf_base.proofs.RisingLemmas.{one_rising}
 use Rattle.gf_groups.specs.VersionList.{id_eq}
 use Rattle.gf_groups.proofs.ConflictTestLemmas.{id_decided}
-use Rattle.gf_groups.proofs.IdLemmas.{id_cmp_total}
+use Rattle.gf_ops.proofs.IdLemmas.{id_cmp_total}
 use Rattle.gf_ops.specs.declared.op.Op.{Op}
 use Rattle.gf_ops.specs.declared.op.OpId.{OpId}
 use Rattle.gf_ops.specs.declared.op.ObjectId.{ObjectId}

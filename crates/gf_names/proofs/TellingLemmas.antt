@@ -14,7 +14,7 @@ use Rattle.gf_base.proofs.FilterLemmas.{Contains-filter}
 use Rattle.gf_base.proofs.ListLemmas.{not_Contains-nil}
 use Rattle.gf_base.proofs.RisingLemmas.{rising_nil}
 use Rattle.gf_base.proofs.InsertLemmas.{inserted_all, holds_all}
-use Rattle.gf_groups.proofs.IdLemmas.{id_cmp_total, id_cmp_exact}
+use Rattle.gf_ops.proofs.IdLemmas.{id_cmp_total, id_cmp_exact}
 use Rattle.gf_ops.specs.declared.op.Op.{Op}
 use Rattle.gf_ops.specs.declared.op.OpId.{OpId}
 use Rattle.gf_ops.specs.AimTests.{ConflictsAt}

@@ -14,3 +14,4 @@ pub mod ConflictLemmas
 pub mod AimedLemmas
 pub mod EntryLemmas
 pub mod ColourLemmas
+pub mod IdLemmas

@@ -38,7 +38,7 @@ pub fn conflicts(history: &History, a: &Op, b: &Op) -> bool
 }
 
 /// Whether `a` conflicts directly with `b`, or with one that `b` aims at.
-pub fn conflicts_with_brought(history: &History, a: &Op, b: &Op) -> bool
+fn conflicts_with_brought(history: &History, a: &Op, b: &Op) -> bool
     requires a { IsInRange a.now }
     requires b { IsInRange b.now }
     ensures { IsTrue result ↔ ConflictsWithBrought history.now.ops a.now b.now }

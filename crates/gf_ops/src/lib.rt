@@ -31,7 +31,7 @@ mod points;
 mod same;
 
 pub use change::{Attr, Change, Form, Start, Value};
-pub use conflict::{conflicts, conflicts_with_brought, direct_conflict};
+pub use conflict::{conflicts, direct_conflict};
 pub use faults::{AddFault, OpFault};
 pub use history::History;
 pub use id_text::{push_id, push_spaced_ids};

@@ -1,4 +1,4 @@
-//! A replica: a history with its versions, and what waits.
+//! A replica: a history with its table, and what waits.
 
 ghost use Rattle.std.specs.Prelude.{◌≡◌, ◌≢◌, ◌↔◌, ◌<◌, ◌++◌, ◌∷◌, [], length, Some, Ok, Err};
 ghost use Rattle.std.specs.Prelude.{IfOk, OnOk, OnErr, map};
@@ -16,7 +16,7 @@ ghost use Rattle.gf_site.specs.Offers.{HasOtherThan, HasAlready, IsNewTo, ComesT
 use gf_base::OutOfMemory;
 use gf_causal::{Buffer, OfferFault, Offered};
 use gf_ops::{History, Op, OpFault, OpId};
-use gf_table::{GroupTable, VersionedHistory, Versions};
+use gf_table::{GroupTable, IndexedHistory};
 use std::alloc::Global;
 use std::marker::Model;
 
@@ -31,11 +31,11 @@ pub enum Step {
     Idle,
 }
 
-/// A history with its versions, and the operations held until they are ready.
+/// A history with its table, and the operations held until they are ready.
 #[derive(Drop)]
 pub struct Replica {
     alloc: Global,
-    history: VersionedHistory,
+    history: IndexedHistory,
     buffer: Buffer,
 }
 
@@ -48,19 +48,18 @@ impl Model for Replica {
 }
 
 impl Replica {
-    /// The versions of all objects of the history.
+    /// The table of the positions of each object's operations.
     pub fn table(&self) -> &GroupTable
         ensures { StandsFor self.now.ops result.now }
     {
         self.history.table()
     }
 
-    /// The history with the versions of its objects.
-    pub fn versions(&self) -> Versions<'_>
-        ensures ops { result ≡ self.now.ops }
-        ensures valid { IsValid self.now.ops }
+    /// The history with its table.
+    pub fn indexed(&self) -> &IndexedHistory
+        ensures { result.now ≡ self.now.ops }
     {
-        self.history.versions()
+        &self.history
     }
 }
 
@@ -71,7 +70,7 @@ impl Replica {
     {
         Replica {
             alloc,
-            history: VersionedHistory::new(alloc),
+            history: IndexedHistory::new(alloc),
             buffer: Buffer::new(alloc),
         }
     }

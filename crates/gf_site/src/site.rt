@@ -20,7 +20,7 @@ use crate::{AuthorFault, Replica, Step};
 use gf_base::OutOfMemory;
 use gf_causal::{OfferFault, Offered};
 use gf_ops::{Change, Clock, History, Op, OpFault, OpId};
-use gf_table::{GroupTable, VersionedHistory, Versions};
+use gf_table::{GroupTable, IndexedHistory};
 use std::alloc::Global;
 use std::marker::Model;
 
@@ -52,19 +52,18 @@ impl Site {
         Site::with_replica(alloc, number, Replica::new(alloc))
     }
 
-    /// The versions of all objects of the history.
+    /// The table of the positions of each object's operations.
     pub fn table(&self) -> &GroupTable
         ensures { StandsFor self.now.ops result.now }
     {
         self.replica.table()
     }
 
-    /// The history with the versions of its objects.
-    pub fn versions(&self) -> Versions<'_>
-        ensures ops { result ≡ self.now.ops }
-        ensures valid { IsValid self.now.ops }
+    /// The history with its table.
+    pub fn indexed(&self) -> &IndexedHistory
+        ensures { result.now ≡ self.now.ops }
     {
-        self.replica.versions()
+        self.replica.indexed()
     }
 }
 

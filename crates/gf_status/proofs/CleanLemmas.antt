@@ -26,8 +26,8 @@ use Rattle.gf_versions.proofs.KeyLemmas.{above_one_way}
 use Rattle.gf_versions.proofs.MakerLemmas.{version_kind}
 use Rattle.gf_versions.proofs.VersionLemmas.{one_of_group}
 use Rattle.gf_visible.specs.ShownVersions.{HasMoreVisible, IsVisibleGroup}
-use Rattle.gf_table.specs.Counting.{capped}
-use Rattle.gf_table.proofs.CountingLemmas.{capped_few, capped_many}
+use Rattle.gf_listing.specs.Counting.{capped}
+use Rattle.gf_listing.proofs.CountingLemmas.{capped_few, capped_many}
 use Rattle.gf_status.specs.declared.objects.ObjectStatus.{ObjectStatus}
 use Rattle.gf_status.specs.declared.state.State.TheVariants.{Clean, Open}
 use Rattle.gf_status.specs.ObjectStatuses.{AreStatuses, IsObjectStatus}

@@ -17,9 +17,9 @@ use Rattle.gf_ops.specs.declared.op.ObjectId.{ObjectId}
 use Rattle.gf_ops.specs.declared.change.Attr.TheVariants as attr
 use Rattle.gf_ops.specs.OperationOrder.{id_cmp}
 use Rattle.gf_groups.specs.declared.group.Group.{Group}
-use Rattle.gf_groups.proofs.IdLemmas.{id_cmp_exact, id_cmp_total}
+use Rattle.gf_ops.proofs.IdLemmas.{id_cmp_exact, id_cmp_total}
 use Rattle.gf_names.specs.RisingIds.{IsRisingOf}
-use Rattle.gf_table.specs.Standing.{AreOn}
+use Rattle.gf_listing.specs.Listed.{AreOn}
 use Rattle.gf_visible.specs.ShownVersions.{AreVisibleOn}
 use Rattle.gf_status.specs.Hidings.{AreLastHidings, HidesLast, ShowsOrHides}
 use Rattle.gf_status.specs.ObjectStatuses.{TellsHidings}

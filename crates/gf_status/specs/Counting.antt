@@ -3,7 +3,7 @@ use Rattle.std.specs.Prelude.{◌≡◌, ℕ, List, length}
 use Rattle.gf_ops.specs.declared.op.Op.{Op}
 use Rattle.gf_ops.specs.declared.op.ObjectId.{ObjectId}
 use Rattle.gf_groups.specs.declared.group.Group.{Group}
-use Rattle.gf_table.specs.Counting.{capped}
+use Rattle.gf_listing.specs.Counting.{capped}
 use Rattle.gf_visible.specs.ShownVersions.{AreVisibleOn}
 
 -- the object o of h has n visible versions, or more than 1,000 where n is 1,001

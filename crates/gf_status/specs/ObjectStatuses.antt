@@ -6,7 +6,7 @@ use Rattle.gf_ops.specs.declared.op.OpId.{OpId}
 use Rattle.gf_ops.specs.declared.op.ObjectId.{ObjectId}
 use Rattle.gf_ops.specs.OperationOrder.{id_cmp}
 use Rattle.gf_groups.specs.Versions.{IsMade}
-use Rattle.gf_table.specs.Counting.{IsCount}
+use Rattle.gf_listing.specs.Counting.{IsCount}
 use Rattle.gf_versions.specs.declared.ranking.TheConstants.{MOST_VERSIONS}
 use Rattle.gf_status.specs.Counting.{IsShownCount}
 use Rattle.gf_status.specs.declared.differing.Difference.{Difference}

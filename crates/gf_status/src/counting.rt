@@ -1,7 +1,7 @@
 //! How many versions are shown in all.
 
 ghost use Rattle.std.specs.Prelude.{◌≡◌, ◌+◌};
-ghost use Rattle.gf_table.specs.Counting.{capped};
+ghost use Rattle.gf_listing.specs.Counting.{capped};
 ghost use Rattle.gf_status.specs.StatusLines.{shown_in};
 
 use crate::ObjectStatus;

@@ -6,7 +6,7 @@ ghost use Rattle.std.specs.List.{fold};
 ghost use Rattle.gf_ops.specs.declared.op.OpId.{OpId};
 ghost use Rattle.gf_ops.specs.OperationOrder.{id_cmp};
 ghost use Rattle.gf_groups.specs.declared.group.Group.{Group};
-ghost use Rattle.gf_table.specs.Standing.{AreOn};
+ghost use Rattle.gf_listing.specs.Listed.{AreOn};
 ghost use Rattle.gf_visible.specs.ShownVersions.{AreVisibleOn};
 ghost use Rattle.gf_status.specs.ObjectStatuses.{TellsHidings};
 ghost use Rattle.gf_status.specs.Setters.{where_none};

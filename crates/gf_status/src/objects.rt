@@ -10,7 +10,7 @@ use crate::hidden::hidden_of;
 use gf_base::OutOfMemory;
 use gf_names::objects;
 use gf_ops::{Ids, ObjectId};
-use gf_table::Versions;
+use gf_listing::Versions;
 use gf_versions::MOST_VERSIONS;
 use gf_visible::visible_groups;
 use std::alloc::Global;

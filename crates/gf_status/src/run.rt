@@ -15,6 +15,7 @@ use crate::lines::status_text;
 use crate::{ObjectStatus, State, object_statuses};
 use gf_base::OutOfMemory;
 use gf_json::Notation;
+use gf_listing::Versions;
 use gf_ops::{History, Op, OpId};
 use gf_replay::read_replica;
 use gf_run::{StudioError, input};
@@ -115,7 +116,7 @@ fn tell(alloc: Global, replica: &Replica, notation: Notation) -> Result<Status, 
 {
     let history = replica.history();
     let waiting = replica.held_ops(alloc)?;
-    let objects = object_statuses(alloc, &replica.versions())?;
+    let objects = object_statuses(alloc, &Versions::of(replica.indexed()))?;
     let text = status_in(alloc, notation, history, &waiting, &objects)?;
     let state = state_of(&waiting, &objects);
     Ok(Status { text, state })

@@ -16,6 +16,7 @@ ghost use Rattle.gf_run.specs.RunAnswers.{ReadsInput};
 use gf_drawing::{CompileFault, compile};
 use gf_fig_read::read_fig;
 use gf_figures::Drawing;
+use gf_listing::Versions;
 use gf_replay::read_replica;
 use gf_run::{StudioError, input};
 use gf_shape::{AnyShape, OutOfMemory, Outline};
@@ -108,7 +109,7 @@ pub(crate) fn ranked_replica(
     ensures ranked { IfOk result (λ ranked. AreRanked replica.now.ops ranked.items.items) }
     ensures err { IfErr result (RefusesHistory replica.now.ops) }
 {
-    listed(ranked_within(alloc, &replica.versions(), MOST_VERSIONS))
+    listed(ranked_within(alloc, &Versions::of(replica.indexed()), MOST_VERSIONS))
 }
 
 /// The list that was made, or why there is none.

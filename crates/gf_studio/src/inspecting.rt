@@ -11,6 +11,7 @@ ghost use Rattle.gf_run.specs.RunAnswers.{LeavesSink, ReadsInput};
 use gf_groups::GroupFault;
 use gf_inspect::{lines, object_lines, top_at_with, top_line, versions_with};
 use gf_json::Notation;
+use gf_listing::Versions;
 use gf_ops::ObjectId;
 use gf_replay::read_replica;
 use gf_run::{StudioError, input};
@@ -119,8 +120,8 @@ fn tell(alloc: Global, replica: &Replica, inspection: Inspection) -> Result<Vec<
     let notation = inspection.notation;
     let told = match inspection.query {
         Query::Object(object) => return tell_versions(alloc, notation, replica, object),
-        Query::Several => object_lines(alloc, notation, &replica.versions(), true),
-        Query::All => object_lines(alloc, notation, &replica.versions(), false),
+        Query::Several => object_lines(alloc, notation, &Versions::of(replica.indexed()), true),
+        Query::All => object_lines(alloc, notation, &Versions::of(replica.indexed()), false),
         Query::At(point) => tell_top(alloc, notation, replica, point),
     };
     match told {
@@ -139,7 +140,7 @@ fn tell_versions(
     ensures ok { IfOk result (λ text. TellsPresent notation replica.now.ops object text.items) }
     ensures err { IfErr result (RefusesQuery replica.now.ops (Query.Object object)) }
 {
-    match versions_with(alloc, &replica.versions(), object) {
+    match versions_with(alloc, &Versions::of(replica.indexed()), object) {
         Ok(versions) => match lines(alloc, notation, versions.as_slice()) {
             Ok(text) => Ok(text),
             Err(OutOfMemory) => Err(StudioError::OutOfMemory),
@@ -158,6 +159,6 @@ fn tell_top(
 ) -> Result<Vec<u8>, OutOfMemory>
     ensures { IfOk result (λ text. TellsTop notation replica.now.ops point text.items) }
 {
-    let name = top_at_with(alloc, &replica.versions(), point)?;
+    let name = top_at_with(alloc, &Versions::of(replica.indexed()), point)?;
     top_line(alloc, notation, point, name.as_ref())
 }

@@ -1,3 +1,1 @@
 pub mod StandsLemmas
-pub mod PositionLemmas
-pub mod CountingLemmas

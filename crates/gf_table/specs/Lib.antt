@@ -1,2 +1,2 @@
+pub mod Positions
 pub mod Standing
-pub mod Counting

@@ -1,17 +1,13 @@
-//! The versions of all objects of a history, found from the positions of the operations on each.
+//! The positions of the operations on each object of a history, one operation at a time. How
+//! versions are found of them is no matter here.
 //!
-//! - [`VersionedHistory`]: a history with the positions of each object's operations, seen as the
-//!   list of its operations. It takes the next operation.
-//! - [`Versions`]: the same, borrowed. It lists or counts the versions of an object. Those who ask
-//!   for versions hold this, and no table.
-//! - [`groups_of`]: the versions of an object of a history alone.
-//! - [`GroupTable`]: the table alone, for those who keep a history beside it.
+//! - [`GroupTable`]: the positions by object, for those who keep a history beside it.
+//! - [`IndexedHistory`]: a history with its table, seen as the list of its operations.
 #![tactic(auto)]
 
+mod indexed;
+mod positions;
 mod table;
-mod versioned;
-mod versions;
 
+pub use indexed::IndexedHistory;
 pub use table::GroupTable;
-pub use versioned::{VersionedHistory, groups_of};
-pub use versions::{MOST_COUNTED, Versions};

@@ -1,21 +1,15 @@
-//! The positions of the operations on each object of a history, one operation at a time.
+//! The table of positions by object, which grows by one operation at a time.
 
-ghost use Rattle.std.specs.Prelude.{◌≡◌, ◌↔◌, ◌∷◌, [], ◌++◌, ◌+◌, ◌^◌, ◌<◌, Err, cond};
-ghost use Rattle.std.specs.Prelude.{IfOk, OnOk, OnErr};
+ghost use Rattle.std.specs.Prelude.{◌≡◌, ◌∷◌, [], ◌++◌, cond, IfOk, OnOk, OnErr};
 ghost use Rattle.std.specs.BTreeMap.{insert_entry, is_at};
 ghost use Rattle.gf_ops.specs.declared.op.ObjectId.{ObjectId};
 ghost use Rattle.gf_ops.specs.Accepted.{IsAccepted};
 ghost use Rattle.gf_ops.specs.Limits.{IsInRange};
-ghost use Rattle.gf_maximal.specs.Growing.{joined};
-ghost use Rattle.gf_groups.specs.GroupedPositions.{positions_on};
-ghost use Rattle.gf_groups.specs.declared.faults.GroupFault.{GroupFault};
-ghost use Rattle.gf_groups.specs.Versions.{IsMade, AreVersions};
-ghost use Rattle.gf_table.specs.Standing.{StandsFor, object_cmp, positions_of};
+ghost use Rattle.gf_table.specs.Positions.{object_cmp};
+ghost use Rattle.gf_table.specs.Standing.{StandsFor, positions_of};
 
-use crate::Versions;
+use crate::positions::Positions;
 use gf_base::OutOfMemory;
-use gf_groups::{GroupFault, Groups};
-use gf_maximal::Numbers;
 use gf_ops::{History, ObjectId, Op};
 use std::alloc::Global;
 use std::collections::BTreeMap;
@@ -26,7 +20,7 @@ use std::marker::Model;
 #[derive(Drop)]
 pub struct GroupTable {
     alloc: Global,
-    objects: BTreeMap<ObjectId, Numbers>,
+    objects: BTreeMap<ObjectId, Positions>,
 }
 
 impl Model for GroupTable {
@@ -61,7 +55,7 @@ impl GroupTable {
         Ok(GroupTable { alloc, objects })
     }
 
-    /// Adds an operation that the history may add. Its versions are made when they are asked for.
+    /// Adds an operation that the history may add. All memory is there before anything changes.
     pub fn add(&mut self, history: &History, op: &Op) -> Result<(), OutOfMemory>
         requires in_range { IsInRange op.now }
         requires accepted { IsAccepted history.now.ops op.now }
@@ -70,66 +64,46 @@ impl GroupTable {
         ensures err { OnErr result (self.new ≡ self.old) }
     {
         let position = history.ops().len();
-        join_to(self.alloc, &mut self.objects, op.object(), position)
+        push_to(self.alloc, &mut self.objects, op.object(), position)
     }
 
-    /// The positions of the operations on an object, rising.
-    pub(crate) fn positions(
-        &self,
-        alloc: Global,
-        object: ObjectId,
-    ) -> Result<Vec<usize>, OutOfMemory>
-        ensures { IfOk result (λ found. found.items ≡ positions_of self.now object) }
+    /// The positions of the operations on an object, rising; none where there is no operation.
+    pub fn positions(&self, object: ObjectId) -> &[usize]
+        ensures { result.now ≡ positions_of self.now object }
     {
         match self.objects.get(&object) {
-            Some(positions) => positions.to_vec(alloc),
-            None => Ok(Vec::new(alloc)),
+            Some(positions) => positions.as_slice(),
+            None => &[],
         }
-    }
-
-    /// The versions of an object, as [`Versions::groups`] gives them, of the history that the table
-    /// stands for.
-    pub fn groups(
-        &self,
-        alloc: Global,
-        history: &History,
-        object: ObjectId,
-    ) -> Result<Groups, GroupFault>
-        requires { StandsFor history.now.ops self.now }
-        ensures groups { IfOk result (λ groups. AreVersions history.now.ops object groups) }
-        ensures no_object { result ≡ Err GroupFault.NoObject ↔ (¬ IsMade history.now.ops object) }
-    {
-        Versions::new(history, self).groups(alloc, object)
     }
 }
 
-/// Adds a position to those of an object.
-fn join_to(
+/// Appends a position to those of an object.
+fn push_to(
     alloc: Global,
-    objects: &mut BTreeMap<ObjectId, Numbers>,
+    objects: &mut BTreeMap<ObjectId, Positions>,
     object: ObjectId,
     position: usize,
 ) -> Result<(), OutOfMemory>
-    requires { position + 1 < 2 ^ 64 }
     ensures ok { OnOk result ((o : ObjectId) → positions_of objects.new.entries o
         ≡ cond (is_at (object_cmp object) o)
-        (joined position (positions_of objects.old.entries object))
+        (positions_of objects.old.entries object ++ position ∷ [])
         (positions_of objects.old.entries o)) }
     ensures err { OnErr result (objects.new.entries ≡ objects.old.entries) }
 {
     if let Some(positions) = objects.get_mut(&object) {
-        return positions.join(position);
+        return positions.push(position);
     }
-    let mut positions = Numbers::new(alloc);
-    positions.join(position)?;
+    let mut positions = Positions::new(alloc);
+    positions.push(position)?;
     put(objects, object, positions)
 }
 
 /// Puts the positions under the object.
 fn put(
-    objects: &mut BTreeMap<ObjectId, Numbers>,
+    objects: &mut BTreeMap<ObjectId, Positions>,
     object: ObjectId,
-    positions: Numbers,
+    positions: Positions,
 ) -> Result<(), OutOfMemory>
     ensures ok { OnOk result (objects.new.entries
         ≡ insert_entry object_cmp objects.old.entries object positions) }

@@ -14,6 +14,7 @@ ghost use Rattle.gf_take.specs.TakingSteps.{RefusesShowing};
 use crate::TakeError;
 use crate::matching::{is_like, look_alike, show_figures};
 use gf_figures::{Drawing, Figure};
+use gf_listing::Versions;
 use gf_ops::{Change, Op};
 use gf_shape::{AnyShape, OutOfMemory, Outline};
 use gf_site::{AuthorFault, Site};
@@ -106,7 +107,7 @@ fn show(alloc: Global, site: &Site, drawing: &Drawing<Outline>) -> Result<(), Ta
     ensures paints { OnOk result (PaintsAsFig site.now.ops drawing.now) }
     ensures err { IfErr result (RefusesShowing site.now.ops drawing.now) }
 {
-    match ranked_within(alloc, &site.versions(), MOST_VERSIONS)? {
+    match ranked_within(alloc, &Versions::of(site.indexed()), MOST_VERSIONS)? {
         None => Err(TakeError::TooManyFigures),
         Some(ranked) => {
             if show_figures(alloc, &ranked.items, drawing)? {

@@ -8,9 +8,10 @@ ghost use Rattle.gf_take_run.specs.ShownText.{IsTextOf};
 
 use gf_drawing::CompileFault;
 use gf_fig_named::named_bytes;
+use gf_listing::Versions;
 use gf_ops::{History, Op};
 use gf_shape::OutOfMemory;
-use gf_table::VersionedHistory;
+use gf_table::IndexedHistory;
 use gf_versions::MOST_VERSIONS;
 use gf_visible::ranked_within;
 use std::alloc::Global;
@@ -25,7 +26,7 @@ pub(crate) fn text_with(
     requires accepted { AreAccepted (history.now.ops ++ new.now) }
     ensures { IfOk result (λ text. IsTextOf (history.now.ops ++ new.now) text.items) }
 {
-    let mut whole = VersionedHistory::of(alloc, history)?;
+    let mut whole = IndexedHistory::of(alloc, history)?;
     for op in new {
         whole.add(op.copy(alloc)?)?;
     }
@@ -33,10 +34,10 @@ pub(crate) fn text_with(
 }
 
 /// The named text of a history; empty where it has none.
-fn text_of(alloc: Global, whole: &VersionedHistory) -> Result<Vec<u8>, OutOfMemory>
+fn text_of(alloc: Global, whole: &IndexedHistory) -> Result<Vec<u8>, OutOfMemory>
     ensures { IfOk result (λ text. IsTextOf whole.now text.items) }
 {
-    let Some(ranked) = ranked_within(alloc, &whole.versions(), MOST_VERSIONS)? else {
+    let Some(ranked) = ranked_within(alloc, &Versions::of(whole), MOST_VERSIONS)? else {
         return Ok(Vec::new(alloc));
     };
     match named_bytes(alloc, whole.history(), ranked) {

@@ -27,6 +27,7 @@ use gf_figures::Drawing;
 use gf_groups::{GroupFault, is_made};
 use gf_import::{start_fault, start_of};
 use gf_inspect::versions_with;
+use gf_listing::Versions;
 use gf_ops::{Change, ObjectId};
 use gf_shape::{AnyShape, OutOfMemory, Outline};
 use gf_site::{AuthorFault, Site};
@@ -135,7 +136,7 @@ fn planned(
     if !author_all(alloc, &mut site, &restored)? {
         return Ok(Plan::Changes(restored));
     }
-    let Some(ranked) = ranked_within(alloc, &site.versions(), MOST_VERSIONS)? else {
+    let Some(ranked) = ranked_within(alloc, &Versions::of(site.indexed()), MOST_VERSIONS)? else {
         return Ok(Plan::Changes(restored));
     };
     let before = versions_of(alloc, site.history(), &ranked.items)?;
@@ -179,10 +180,10 @@ fn restore(
     if !is_made(base.history(), object) {
         return Ok(());
     }
-    if MOST_VERSIONS < base.versions().count(alloc, object)? {
+    if MOST_VERSIONS < Versions::of(base.indexed()).count(alloc, object)? {
         return Ok(());
     }
-    let versions = match versions_with(alloc, &base.versions(), object) {
+    let versions = match versions_with(alloc, &Versions::of(base.indexed()), object) {
         Ok(versions) => versions,
         Err(GroupFault::NoObject) => return Ok(()),
         Err(GroupFault::OutOfMemory) => return Err(OutOfMemory),
@@ -262,7 +263,7 @@ fn arrange(
     matching: &Matching,
     changes: &mut Vec<Change>,
 ) -> Result<(), OutOfMemory> {
-    let Some(ranked) = ranked_within(alloc, &changed.versions(), MOST_VERSIONS)? else {
+    let Some(ranked) = ranked_within(alloc, &Versions::of(changed.indexed()), MOST_VERSIONS)? else {
         return Ok(());
     };
     let history = changed.history();

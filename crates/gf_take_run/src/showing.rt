@@ -14,6 +14,7 @@ ghost use Rattle.gf_take_run.specs.TakeSteps.{RefusesBase};
 use crate::drawing_error::DrawingError;
 use gf_fig_named::thin_polygons;
 use gf_fig_tokens::cut_line;
+use gf_listing::Versions;
 use gf_ops::{Change, ObjectId, push_id};
 use gf_shape::{AnyShape, OutOfMemory};
 use gf_site::Site;
@@ -36,7 +37,7 @@ pub(crate) fn shown_by(alloc: Global, base: &Site) -> Result<Shown, DrawingError
     ensures refused { (after : Option ℕ) (fig : List ℕ) (d : Drawn) → IfErr result
         (RefusesBase base.now.number after base.now.ops fig d) }
 {
-    match ranked_within(alloc, &base.versions(), MOST_VERSIONS)? {
+    match ranked_within(alloc, &Versions::of(base.indexed()), MOST_VERSIONS)? {
         None => Err(DrawingError::TooManyFigures),
         Some(ranked) => {
             let thin = thin_polygons(alloc, &ranked.items)?;

@@ -6,7 +6,7 @@ use Rattle.std.specs.Ordering.{ordering_then, nat_cmp, ordering_reverse}
 use Rattle.std.specs.Cmp.Lexicographic.{slice_cmp}
 use Rattle.std.specs.FinMap.{IsAntisymmetric, nat_cmp-IsAntisymmetric, slice_cmp-IsAntisymmetric}
 use Rattle.gf_ops.specs.OperationOrder.{id_cmp}
-use Rattle.gf_groups.proofs.IdLemmas.{id_cmp_exact, both_tied}
+use Rattle.gf_ops.proofs.IdLemmas.{id_cmp_exact, both_tied}
 use Rattle.gf_versions.specs.declared.key.VersionKey.{VersionKey}
 use Rattle.gf_versions.specs.Above.{key_cmp, IsAbove}
 use Rattle.gf_versions.specs.KeyOrder.{key_cmp_total}

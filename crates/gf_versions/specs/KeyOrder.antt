@@ -1,7 +1,7 @@
 -- The order of keys is total. No public clause cites this module.
 use Rattle.std.specs.Cmp.{IsTotalOrder}
 use Rattle.std.proofs.lemmas.Cmp.{nat_cmp_total, on_total, then_total, lists_total}
-use Rattle.gf_groups.proofs.IdLemmas.{id_cmp_total}
+use Rattle.gf_ops.proofs.IdLemmas.{id_cmp_total}
 use Rattle.gf_versions.specs.declared.key.VersionKey.{VersionKey}
 use Rattle.gf_versions.specs.Above.{key_cmp}
 

@@ -14,7 +14,7 @@ use Rattle.gf_ops.specs.declared.op.ObjectId.{ObjectId}
 use Rattle.gf_ops.proofs.HistoryLemmas.{seq_in_range, site_in_range}
 use Rattle.gf_classes.specs.Hiding.{hiding_site_at, shown_by}
 use Rattle.gf_classes.specs.ConflictClasses.{AreClassesOf}
-use Rattle.gf_groups.specs.GroupedPositions.{positions_on}
+use Rattle.gf_table.specs.Positions.{positions_on}
 use Rattle.gf_groups.specs.Growing.{before_at, conflict_at}
 use Rattle.gf_groups.specs.Versions.{IsMade}
 use Rattle.gf_maximal.specs.Classes.{ClassesState, gathered, members_of, spread, used}

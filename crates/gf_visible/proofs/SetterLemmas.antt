@@ -17,7 +17,7 @@ use Rattle.gf_ops.specs.OperationOrder.{Precedes}
 use Rattle.gf_ops.specs.DirectConflict.{DirectConflict}
 use Rattle.gf_ops.specs.ValidHistory.{IsValid}
 use Rattle.gf_ops.proofs.ConflictLemmas.{conflict_direct}
-use Rattle.gf_groups.specs.GroupedPositions.{is_on}
+use Rattle.gf_table.specs.Positions.{is_on}
 use Rattle.gf_groups.specs.Growing.{conflict_at}
 use Rattle.gf_groups.proofs.ConflictTestLemmas.{before_decided}
 use Rattle.gf_groups.proofs.OnPositionLemmas.{conflict_from, on_from}

@@ -11,7 +11,8 @@ use Rattle.gf_ops.specs.SettledValue.{IsSettled}
 use Rattle.gf_ops.specs.ValidHistory.{IsValid}
 use Rattle.gf_base.proofs.ListLemmas.{Contains-map, Contains-map_from}
 use Rattle.gf_groups.specs.declared.group.Group.{Group}
-use Rattle.gf_groups.specs.GroupedPositions.{is_on, positions_on, rising_ids, group_at}
+use Rattle.gf_groups.specs.GroupedPositions.{rising_ids, group_at}
+use Rattle.gf_table.specs.Positions.{is_on, positions_on}
 use Rattle.gf_groups.specs.Growing.{conflict_at}
 use Rattle.gf_maximal.specs.LargestSets.{IsRising, AreLargestSets}
 use Rattle.gf_groups.specs.Versions.{IsMade, IsVersionGroup}

@@ -10,7 +10,8 @@ use Rattle.gf_ops.specs.declared.change.Value.TheVariants as value
 use Rattle.gf_ops.specs.SettledValue.{IsSettled}
 use Rattle.gf_ops.specs.ValidHistory.{IsValid}
 use Rattle.gf_groups.specs.declared.group.Group.{Group}
-use Rattle.gf_groups.specs.GroupedPositions.{group_at, is_on, positions_on, rising_ids}
+use Rattle.gf_groups.specs.GroupedPositions.{group_at, rising_ids}
+use Rattle.gf_table.specs.Positions.{is_on, positions_on}
 use Rattle.gf_groups.specs.Growing.{conflict_at}
 use Rattle.gf_groups.specs.Versions.{IsMade, IsVersionGroup}
 use Rattle.gf_groups.proofs.OnPositionLemmas.{all_positions}

@@ -3,7 +3,7 @@
 ghost use Rattle.std.specs.Prelude.{◌≡◌, ◌↔◌, ◌≤◌, ◌<◌, ℕ, length, Contains, IfOk, filter, option_map};
 ghost use Rattle.std.specs.Prelude.{◌-◌, ◌^◌, true};
 ghost use Rattle.gf_classes.specs.ConflictClasses.{AreClassesOf};
-ghost use Rattle.gf_groups.specs.GroupedPositions.{positions_on};
+ghost use Rattle.gf_table.specs.Positions.{positions_on};
 ghost use Rattle.gf_groups.specs.Versions.{IsMade};
 ghost use Rattle.gf_maximal.specs.LargestSets.{IsRising};
 ghost use Rattle.gf_maximal.specs.Rows.{conflict};

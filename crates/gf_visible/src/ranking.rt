@@ -9,19 +9,20 @@ ghost use Rattle.gf_versions.specs.Ranking.{AreRanked};
 
 use crate::objects::{visible_made, visible_or_all};
 use gf_groups::Group;
+use gf_listing::Versions;
 use gf_ops::History;
 use gf_shape::{AnyShape, OutOfMemory};
-use gf_table::{GroupTable, VersionedHistory, Versions};
+use gf_table::{GroupTable, IndexedHistory};
 use gf_versions::{Ranked, ranked_of};
 use std::alloc::Global;
 
-/// The versions that [`ranked_all`] gives, of a history alone. The call first adds the history to a
-/// [`VersionedHistory`], which those who ask again keep.
+/// The versions that [`ranked_all`] gives, of a history alone. The call first copies the history
+/// into an [`IndexedHistory`], which those who ask again keep.
 pub fn ranked(alloc: Global, history: &History) -> Result<Ranked<AnyShape>, OutOfMemory>
     ensures { IfOk result (λ ranked. AreRanked history.now.ops ranked.items.items) }
 {
-    let versioned = VersionedHistory::of(alloc, history)?;
-    ranked_all(alloc, &versioned.versions())
+    let indexed = IndexedHistory::of(alloc, history)?;
+    ranked_all(alloc, &Versions::of(&indexed))
 }
 
 /// The versions that [`ranked_all`] gives, of a history and a table that stands for it.

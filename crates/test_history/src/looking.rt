@@ -3,6 +3,7 @@
 use gf_groups::GroupFault;
 use gf_inspect::{VersionName, lines, top_at, top_at_with, top_line, versions, versions_with};
 use gf_json::Notation;
+use gf_listing::Versions;
 use gf_ops::ObjectId;
 use gf_shape::Point;
 use gf_site::Site;
@@ -13,7 +14,7 @@ use test_kit::notation::{id, point};
 /// The versions of an object, by the table.
 pub(crate) fn all(alloc: Global, site: &Site, text: &str) -> Option<String> {
     let object = ObjectId(id(text)?);
-    told(alloc, versions_with(alloc, &site.versions(), object))
+    told(alloc, versions_with(alloc, &Versions::of(site.indexed()), object))
 }
 
 /// The versions of an object, by the plain call.
@@ -41,7 +42,7 @@ fn lines_of(alloc: Global, versions: &[Version]) -> Option<String> {
 /// What is on top at a point, by the table.
 pub(crate) fn top(alloc: Global, site: &Site, text: &str) -> Option<String> {
     let point = point(text)?;
-    let name = top_at_with(alloc, &site.versions(), point).ok()?;
+    let name = top_at_with(alloc, &Versions::of(site.indexed()), point).ok()?;
     line_of(alloc, point, name)
 }
 

@@ -3,7 +3,7 @@
 
 use crate::version_commands::text_of;
 use gf_ops::{AddFault, Form, History, ObjectId, Op, OpId, Value, conflicts};
-use gf_table::groups_of;
+use gf_listing::groups_of;
 use std::alloc::Global;
 use test_kit::notation::push_ids;
 use test_kit::{BLUE, GREEN, changed, create};

@@ -6,6 +6,7 @@ use crate::version_commands::text_of;
 use gf_drawing::compile;
 use gf_figures::Drawing;
 use gf_groups::{GroupFault, Groups, is_made};
+use gf_listing::Versions;
 use gf_ops::ObjectId;
 use gf_shape::AnyShape;
 use gf_site::Site;
@@ -17,7 +18,7 @@ use test_kit::notation::{id, push_ids};
 /// The groups of an object, by the table.
 pub(crate) fn groups(alloc: Global, site: &Site, text: &str) -> Option<String> {
     let object = ObjectId(id(text)?);
-    told(alloc, site.versions().groups(alloc, object))
+    told(alloc, Versions::of(site.indexed()).groups(alloc, object))
 }
 
 /// The groups of an object, by a copy of the table.
@@ -31,7 +32,7 @@ pub(crate) fn copied(alloc: Global, site: &Site, text: &str) -> Option<String> {
 pub(crate) fn operations(alloc: Global, site: &Site, text: &str) -> Option<String> {
     let object = ObjectId(id(text)?);
     let mut ids = Vec::new(alloc);
-    for op in site.versions().operations(alloc, object).ok()? {
+    for op in Versions::of(site.indexed()).operations(alloc, object).ok()? {
         ids.push(op.id).ok()?;
     }
     ids.sort().ok()?;
@@ -54,7 +55,7 @@ pub(crate) fn visible(alloc: Global, site: &Site, text: &str) -> Option<String> 
     if !is_made(site.history(), object) {
         return None;
     }
-    match visible_groups(alloc, &site.versions(), object, bound(most)?).ok()? {
+    match visible_groups(alloc, &Versions::of(site.indexed()), object, bound(most)?).ok()? {
         Some(groups) => number(alloc, groups.len()),
         None => more(alloc),
     }
@@ -84,7 +85,7 @@ pub(crate) fn total(alloc: Global, site: &Site) -> Option<String> {
 
 /// How many versions of all objects are visible, or that they are more than this.
 pub(crate) fn ranking(alloc: Global, site: &Site, text: &str) -> Option<String> {
-    match ranked_within(alloc, &site.versions(), bound(text)?).ok()? {
+    match ranked_within(alloc, &Versions::of(site.indexed()), bound(text)?).ok()? {
         Some(ranked) => number(alloc, ranked.len()),
         None => more(alloc),
     }
@@ -92,7 +93,7 @@ pub(crate) fn ranking(alloc: Global, site: &Site, text: &str) -> Option<String> 
 
 /// The figures of the drawing of at most this many versions, the last one's depth, and the colours.
 pub(crate) fn drawn(alloc: Global, site: &Site, text: &str) -> Option<String> {
-    match ranked_within(alloc, &site.versions(), bound(text)?).ok()? {
+    match ranked_within(alloc, &Versions::of(site.indexed()), bound(text)?).ok()? {
         Some(ranked) => drawing(alloc, ranked),
         None => more(alloc),
     }

@@ -3,9 +3,10 @@
 
 use gf_groups::{GroupFault, Groups};
 use gf_inspect::aimed_at;
+use gf_listing::{Versions, groups_of};
 use gf_ops::{Change, Form, History, ObjectId, OpId};
 use gf_shape::{AnyShape, Bounds, OutOfMemory, Point, Rgb, Shape};
-use gf_table::{VersionedHistory, groups_of};
+use gf_table::IndexedHistory;
 use gf_versions::{Placed, Ranked, Version, VersionKey, settle};
 use gf_visible::ranked;
 use std::alloc::Global;
@@ -38,11 +39,11 @@ pub(crate) fn versions(alloc: Global, history: &History, text: &str) -> Option<S
 
 /// The groups of each object, in the order of the creations.
 fn all_groups(alloc: Global, history: &History) -> Option<Vec<Groups>> {
-    let versioned = VersionedHistory::of(alloc, history).ok()?;
+    let indexed = IndexedHistory::of(alloc, history).ok()?;
     let mut found = Vec::new(alloc);
     for op in history.ops() {
         if let Change::Create(_) = op.change {
-            let groups = versioned.versions().groups(alloc, ObjectId(op.id)).ok()?;
+            let groups = Versions::of(&indexed).groups(alloc, ObjectId(op.id)).ok()?;
             found.push(groups).ok()?;
         }
     }

@@ -7,6 +7,7 @@ ghost use Rattle.gf_table.specs.Standing.{StandsFor};
 use crate::examples::{BOX, TWO_COLOURS, are_groups, site};
 use crate::trial::{Came, Marks};
 use gf_causal::{OfferFault, Offered};
+use gf_listing::ListGroups;
 use gf_ops::{History, ObjectId, Op};
 use gf_replicas::{Event, World};
 use gf_shape::OutOfMemory;

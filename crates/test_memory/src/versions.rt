@@ -7,16 +7,17 @@ use crate::trial::{Came, Marks};
 use gf_groups::{Group, GroupFault, is_made};
 use gf_inspect::VersionName;
 use gf_json::Notation;
+use gf_listing::{ListGroups, Versions};
 use gf_ops::{Change, History, ObjectId, OpId, Value};
 use gf_shape::{AnyShape, Bounds, OutOfMemory, Shape};
-use gf_table::VersionedHistory;
+use gf_table::IndexedHistory;
 use gf_versions::{Placed, Ranked, Version};
 use std::alloc::Global;
 use test_kit::{RED, at};
 
 pub(crate) const NAMES: &str = "
 groups_of may do without
-versioned may do without
+indexed may do without
 table_groups may do without
 visible_groups may do without
 versions_count may do without
@@ -37,7 +38,7 @@ top_line
 pub(crate) fn tried(alloc: Global, name: &str, marks: &mut Marks) -> Option<Came> {
     let came = match name {
         "groups_of" => groups_of(alloc, marks),
-        "versioned" => versioned(alloc, marks),
+        "indexed" => indexed(alloc, marks),
         "table_groups" => table_groups(alloc, marks),
         "visible_groups" => visible_groups(alloc, marks),
         "versions_count" => versions_count(alloc, marks),
@@ -69,35 +70,35 @@ const THEIR_GROUPS: &str = "[ 1.1 1.2 3.1 ][ 1.1 2.1 ]";
 fn groups_of(alloc: Global, marks: &mut Marks) -> Option<Came> {
     let site = site(alloc, THREE_SETTERS)?;
     marks.begin();
-    let first = gf_table::groups_of(alloc, site.history(), ObjectId(BOX));
+    let first = gf_listing::groups_of(alloc, site.history(), ObjectId(BOX));
     marks.end();
     Some(match first {
         Err(GroupFault::OutOfMemory) => {
-            let next = gf_table::groups_of(alloc, site.history(), ObjectId(BOX));
+            let next = gf_listing::groups_of(alloc, site.history(), ObjectId(BOX));
             Came::after_memory(true, are_groups(alloc, next, THEIR_GROUPS))
         }
         first => Came::first(are_groups(alloc, first, THEIR_GROUPS)),
     })
 }
 
-fn versioned(alloc: Global, marks: &mut Marks) -> Option<Came> {
+fn indexed(alloc: Global, marks: &mut Marks) -> Option<Came> {
     let site = site(alloc, THREE_SETTERS)?;
     marks.begin();
-    let first = VersionedHistory::of(alloc, site.history());
+    let first = IndexedHistory::of(alloc, site.history());
     marks.end();
     Some(match first {
         Err(OutOfMemory) => {
-            let next = VersionedHistory::of(alloc, site.history());
-            Came::after_memory(true, are_versioned(alloc, next))
+            let next = IndexedHistory::of(alloc, site.history());
+            Came::after_memory(true, are_indexed(alloc, next))
         }
-        first => Came::first(are_versioned(alloc, first)),
+        first => Came::first(are_indexed(alloc, first)),
     })
 }
 
-fn are_versioned(alloc: Global, answer: Result<VersionedHistory, OutOfMemory>) -> bool {
+fn are_indexed(alloc: Global, answer: Result<IndexedHistory, OutOfMemory>) -> bool {
     match answer {
-        Ok(versioned) => {
-            let groups = versioned.versions().groups(alloc, ObjectId(BOX));
+        Ok(indexed) => {
+            let groups = Versions::of(&indexed).groups(alloc, ObjectId(BOX));
             are_groups(alloc, groups, THEIR_GROUPS)
         }
         Err(OutOfMemory) => false,
@@ -125,11 +126,11 @@ fn visible_groups(alloc: Global, marks: &mut Marks) -> Option<Came> {
         return None;
     }
     marks.begin();
-    let first = gf_visible::visible_groups(alloc, &site.versions(), object, 2);
+    let first = gf_visible::visible_groups(alloc, &Versions::of(site.indexed()), object, 2);
     marks.end();
     Some(match first {
         Err(OutOfMemory) => {
-            let next = gf_visible::visible_groups(alloc, &site.versions(), object, 2);
+            let next = gf_visible::visible_groups(alloc, &Versions::of(site.indexed()), object, 2);
             Came::after_memory(true, are_visible(alloc, next))
         }
         first => Came::first(are_visible(alloc, first)),
@@ -150,11 +151,11 @@ fn versions_count(alloc: Global, marks: &mut Marks) -> Option<Came> {
         return None;
     }
     marks.begin();
-    let first = site.versions().count(alloc, object);
+    let first = Versions::of(site.indexed()).count(alloc, object);
     marks.end();
     Some(match first {
         Err(OutOfMemory) => {
-            let next = site.versions().count(alloc, object);
+            let next = Versions::of(site.indexed()).count(alloc, object);
             Came::after_memory(true, matches!(next, Ok(2)))
         }
         first => Came::first(matches!(first, Ok(2))),
@@ -172,7 +173,7 @@ fn settle_first(
     marks: &mut Marks,
     history: &History,
 ) -> Result<Option<Came>, GroupFault> {
-    let groups = gf_table::groups_of(alloc, history, ObjectId(BOX))?;
+    let groups = gf_listing::groups_of(alloc, history, ObjectId(BOX))?;
     let groups = groups.as_slice();
     if groups.len() > 0 {
         Ok(settle_group(alloc, marks, history, &groups[0]))
@@ -242,11 +243,11 @@ fn ranked_with(alloc: Global, marks: &mut Marks) -> Option<Came> {
 fn ranked_within(alloc: Global, marks: &mut Marks) -> Option<Came> {
     let site = site(alloc, RED_BOX_MADE)?;
     marks.begin();
-    let first = gf_visible::ranked_within(alloc, &site.versions(), 1);
+    let first = gf_visible::ranked_within(alloc, &Versions::of(site.indexed()), 1);
     marks.end();
     Some(match first {
         Err(OutOfMemory) => {
-            let next = gf_visible::ranked_within(alloc, &site.versions(), 1);
+            let next = gf_visible::ranked_within(alloc, &Versions::of(site.indexed()), 1);
             Came::after_memory(true, is_red_box(next.ok().flatten()))
         }
         first => Came::first(is_red_box(first.ok().flatten())),
@@ -306,11 +307,11 @@ fn versions(alloc: Global, marks: &mut Marks) -> Option<Came> {
 fn versions_with(alloc: Global, marks: &mut Marks) -> Option<Came> {
     let site = site(alloc, TWO_COLOURS)?;
     marks.begin();
-    let first = gf_inspect::versions_with(alloc, &site.versions(), ObjectId(BOX));
+    let first = gf_inspect::versions_with(alloc, &Versions::of(site.indexed()), ObjectId(BOX));
     marks.end();
     Some(match first {
         Err(GroupFault::OutOfMemory) => {
-            let next = gf_inspect::versions_with(alloc, &site.versions(), ObjectId(BOX));
+            let next = gf_inspect::versions_with(alloc, &Versions::of(site.indexed()), ObjectId(BOX));
             Came::after_memory(true, are_versions(alloc, next))
         }
         first => Came::first(are_versions(alloc, first)),
@@ -334,11 +335,11 @@ fn top_at(alloc: Global, marks: &mut Marks) -> Option<Came> {
 fn top_at_with(alloc: Global, marks: &mut Marks) -> Option<Came> {
     let site = site(alloc, TWO_COLOURS)?;
     marks.begin();
-    let first = gf_inspect::top_at_with(alloc, &site.versions(), at(10, 10));
+    let first = gf_inspect::top_at_with(alloc, &Versions::of(site.indexed()), at(10, 10));
     marks.end();
     Some(match first {
         Err(OutOfMemory) => {
-            let next = gf_inspect::top_at_with(alloc, &site.versions(), at(10, 10));
+            let next = gf_inspect::top_at_with(alloc, &Versions::of(site.indexed()), at(10, 10));
             Came::after_memory(true, is_green(alloc, next))
         }
         first => Came::first(is_green(alloc, first)),

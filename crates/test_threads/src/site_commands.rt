@@ -3,6 +3,7 @@
 use gf_base::OutOfMemory;
 use gf_causal::{OfferFault, Offered};
 use gf_groups::GroupFault;
+use gf_listing::ListGroups;
 use gf_ops::{History, ObjectId, Op};
 use gf_site::{AuthorFault, Site, Step};
 use std::alloc::Global;

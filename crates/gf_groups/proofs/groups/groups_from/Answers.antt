@@ -1,7 +1,8 @@
 use Rattle.std.proofs.Common.{◌≡◌, map}
 use Rattle.std.specs.List.Sorted.{IsPermutation}
 use Rattle.gf_groups.specs.Growing.{conflict_at}
-use Rattle.gf_groups.specs.GroupedPositions.{positions_on, group_at}
+use Rattle.gf_groups.specs.GroupedPositions.{group_at}
+use Rattle.gf_table.specs.Positions.{positions_on}
 use Rattle.gf_groups.proofs.GroupLemmas.{versions_sorted}
 use Rattle.gf_groups.proofs.OnPositionLemmas.{all_positions}
 use Rattle.gf_groups.proofs.PositionLemmas.{positions_on-rising}

@@ -1,6 +1,6 @@
 use Rattle.std.proofs.Common.{◌≡◌, ◌+◌, take}
 use Rattle.std.specs.List.{fold}
-use Rattle.gf_table.specs.Counting.{capped}
+use Rattle.gf_listing.specs.Counting.{capped}
 use Rattle.gf_status.specs.declared.objects.ObjectStatus.{ObjectStatus}
 use Rattle.gf_status.proofs.counting.shown_in.Given as goal
 

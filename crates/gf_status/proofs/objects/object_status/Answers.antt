@@ -1,6 +1,6 @@
 use Rattle.std.proofs.Common.{map, subst, sym}
 use Rattle.gf_groups.specs.Versions.{IsVersionGroup}
-use Rattle.gf_table.specs.Standing.{AreOn}
+use Rattle.gf_listing.specs.Listed.{AreOn}
 use Rattle.gf_visible.specs.ShownVersions.{AreVisibleOn}
 use Rattle.gf_status.proofs.LastLemmas.{now}
 use Rattle.gf_status.proofs.StatusLemmas.{visible_versions}

@@ -1,6 +1,6 @@
 use Rattle.std.proofs.Common.{◌≡◌, ◌≤◌, ◌<◌, ℕ, true, List, ap, length, map, subst, sym, ◌∙◌}
 use Rattle.std.specs.Prelude.{Contains, option_map}
-use Rattle.gf_groups.specs.GroupedPositions.{positions_on}
+use Rattle.gf_table.specs.Positions.{positions_on}
 use Rattle.gf_maximal.specs.Classes.{spread}
 use Rattle.gf_maximal.specs.Rows.{conflict}
 use Rattle.gf_maximal.proofs.ClassLemmas.{used_below}

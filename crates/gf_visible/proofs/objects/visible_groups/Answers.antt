@@ -1,7 +1,7 @@
 use Rattle.std.proofs.Common.{sym, subst}
 use Rattle.std.proofs.lemmas.List.{length-map}
 use Rattle.gf_classes.specs.ConflictClasses.{AreClassesOf}
-use Rattle.gf_groups.specs.GroupedPositions.{positions_on}
+use Rattle.gf_table.specs.Positions.{positions_on}
 use Rattle.gf_groups.specs.Versions.{IsMade}
 use Rattle.gf_visible.proofs.ShownGroupLemmas.{more_on, sets_rise, visible_on}
 use Rattle.gf_visible.proofs.objects.visible_groups.Goals as goal

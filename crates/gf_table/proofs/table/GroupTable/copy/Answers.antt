@@ -3,7 +3,7 @@ use Rattle.std.specs.BTreeMap.{insert_entry}
 use Rattle.std.specs.List.Sorted.{IsStrictlySortedBy}
 use Rattle.std.specs.Map.{keys_of}
 use Rattle.gf_ops.proofs.EntryLemmas.{copied_more}
-use Rattle.gf_table.specs.Standing.{object_cmp}
+use Rattle.gf_table.specs.Positions.{object_cmp}
 use Rattle.gf_table.proofs.StandsLemmas.{object_cmp_total}
 use Rattle.gf_table.proofs.table.GroupTable.copy.Goals as goal
 

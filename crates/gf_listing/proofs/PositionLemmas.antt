@@ -9,9 +9,9 @@ use Rattle.gf_base.proofs.ListLemmas.{not_Contains-nil}
 use Rattle.gf_ops.specs.declared.op.Op.{Op}
 use Rattle.gf_ops.specs.declared.op.ObjectId.{ObjectId}
 use Rattle.gf_base.proofs.PositionLemmas.{contained_at}
-use Rattle.gf_groups.specs.GroupedPositions.{is_on, positions_on}
+use Rattle.gf_table.specs.Positions.{is_on, positions_on}
 use Rattle.gf_groups.proofs.OnPositionLemmas.{all_positions, on_from, on_to, position_of_op}
-use Rattle.gf_table.specs.Standing.{AreOn}
+use Rattle.gf_listing.specs.Listed.{AreOn}
 
 module _ (h : List Op) where
   -- the operations at the positions us

@@ -8,7 +8,8 @@ use Rattle.gf_ops.specs.declared.op.ObjectId.{ObjectId}
 use Rattle.gf_ops.specs.ValidHistory.{IsValid}
 use Rattle.gf_classes.specs.ConflictClasses.{AreClassesOf}
 use Rattle.gf_groups.specs.Growing.{conflict_at}
-use Rattle.gf_groups.specs.GroupedPositions.{group_at, positions_on}
+use Rattle.gf_groups.specs.GroupedPositions.{group_at}
+use Rattle.gf_table.specs.Positions.{positions_on}
 use Rattle.gf_groups.specs.Versions.{IsMade}
 use Rattle.gf_groups.proofs.GroupLemmas.{groups_exactly, groups_once}
 use Rattle.gf_groups.proofs.OnPositionLemmas.{all_positions}
@@ -18,9 +19,9 @@ use Rattle.gf_maximal.specs.LargestSets.{AreLargestSets}
 use Rattle.gf_maximal.specs.Rows.{conflict}
 use Rattle.gf_maximal.proofs.ClassLemmas.{largest_spread, used_rises}
 use Rattle.gf_maximal.proofs.ListingLemmas.{largest_sets}
-use Rattle.gf_table.specs.Counting.{IsCount, capped}
-use Rattle.gf_table.specs.Standing.{AreAllOf}
-use Rattle.gf_table.specs.declared.versions.TheConstants.{MOST_COUNTED}
+use Rattle.gf_listing.specs.Counting.{IsCount, capped}
+use Rattle.gf_listing.specs.Listed.{AreAllOf}
+use Rattle.gf_listing.specs.declared.versions.TheConstants.{MOST_COUNTED}
 
 -- ---- capped numbers
 

@@ -1,6 +1,6 @@
 use Rattle.std.proofs.lemmas.Result.{IfOk-weaker}
-use Rattle.gf_table.proofs.CountingLemmas.{count_told}
-use Rattle.gf_table.proofs.versions.Versions.count.Goals as goal
+use Rattle.gf_listing.proofs.CountingLemmas.{count_told}
+use Rattle.gf_listing.proofs.versions.Versions.count.Goals as goal
 
 pub returns : goal.returns
 returns c = IfOk-weaker c.count.result _ _

@@ -1,9 +1,9 @@
 use Rattle.std.proofs.Common.{ap, map, subst, sym, ◌∙◌}
 use Rattle.gf_classes.specs.ConflictClasses.{AreClassesOf}
-use Rattle.gf_groups.specs.GroupedPositions.{positions_on}
+use Rattle.gf_table.specs.Positions.{positions_on}
 use Rattle.gf_maximal.specs.Classes.{spread}
-use Rattle.gf_table.proofs.CountingLemmas.{sets_spread}
-use Rattle.gf_table.proofs.versions.Versions.made_groups.Goals as goal
+use Rattle.gf_listing.proofs.CountingLemmas.{sets_spread}
+use Rattle.gf_listing.proofs.versions.Versions.made_groups.Goals as goal
 
 pub groups_from-requires-clause-table : goal.groups_from-requires-clause-table
 groups_from-requires-clause-table c =

@@ -1,20 +1,21 @@
-//! A history with its versions, as those who ask for versions borrow it.
+//! A history with its table, as those who ask for versions borrow it.
 
 ghost use Rattle.std.specs.Prelude.{◌≡◌, ◌↔◌, Err, IfOk, filter_map, map, slice_get};
 ghost use Rattle.gf_ops.specs.ValidHistory.{IsValid};
 ghost use Rattle.gf_classes.specs.ConflictClasses.{AreClassesOf};
 ghost use Rattle.gf_groups.specs.declared.faults.GroupFault.{GroupFault};
-ghost use Rattle.gf_groups.specs.GroupedPositions.{positions_on};
+ghost use Rattle.gf_table.specs.Positions.{positions_on};
 ghost use Rattle.gf_groups.specs.Versions.{AreVersions, IsMade};
-ghost use Rattle.gf_table.specs.Counting.{IsCount};
-ghost use Rattle.gf_table.specs.Standing.{AreOn, StandsFor};
+ghost use Rattle.gf_listing.specs.Counting.{IsCount};
+ghost use Rattle.gf_listing.specs.Listed.{AreOn};
+ghost use Rattle.gf_table.specs.Standing.{StandsFor};
 
-use crate::GroupTable;
 use gf_base::OutOfMemory;
 use gf_classes::classes_of;
 use gf_groups::{GroupFault, Groups, groups_from, is_made};
 use gf_maximal::Classes;
 use gf_ops::{History, ObjectId, Op};
+use gf_table::{GroupTable, IndexedHistory};
 use std::alloc::Global;
 use std::marker::Model;
 
@@ -47,6 +48,14 @@ impl<'h> Versions<'h> {
         ensures { result ≡ history.now.ops }
     {
         Versions { history, table }
+    }
+
+    /// A history with its own table.
+    pub fn of(indexed: &'h IndexedHistory) -> Versions<'h>
+        ensures ops { result ≡ indexed.now }
+        ensures valid { IsValid indexed.now }
+    {
+        Versions::new(indexed.history(), indexed.table())
     }
 
     /// The history.
@@ -107,16 +116,14 @@ impl<'h> Versions<'h> {
     pub fn operations(&self, alloc: Global, object: ObjectId) -> Result<Vec<&'h Op>, OutOfMemory>
         ensures { IfOk result (λ found. AreOn self.now object (map (λ a. a.now) found.items)) }
     {
-        let positions = self.table.positions(alloc, object)?;
-        operations_at(alloc, self.history, &positions)
+        operations_at(alloc, self.history, self.table.positions(object))
     }
 
     /// The classes of the operations on an object, by their positions in the history.
     pub fn classes(&self, alloc: Global, object: ObjectId) -> Result<Classes, OutOfMemory>
         ensures { IfOk result (λ found. AreClassesOf self.now (positions_on self.now object) found) }
     {
-        let positions = self.table.positions(alloc, object)?;
-        classes_of(alloc, self.history, object, &positions)
+        classes_of(alloc, self.history, object, self.table.positions(object))
     }
 }
 

@@ -1,7 +1,7 @@
 use Rattle.std.proofs.Common.{sym, subst, ◌∙◌}
 use Rattle.gf_ops.specs.Accepted.{AreAccepted, IsAccepted}
 use Rattle.gf_ops.proofs.AcceptedLemmas.{accepted_at}
-use Rattle.gf_table.proofs.versioned.VersionedHistory.of.Goals as goal
+use Rattle.gf_table.proofs.indexed.IndexedHistory.of.Goals as goal
 
 pub add-requires-clause-accepted : goal.add-requires-clause-accepted
 add-requires-clause-accepted c =

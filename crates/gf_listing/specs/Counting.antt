@@ -3,8 +3,8 @@ use Rattle.std.specs.Prelude.{◌≡◌, ℕ, ◌+◌, cond, nat_le, List, lengt
 use Rattle.gf_ops.specs.declared.op.Op.{Op}
 use Rattle.gf_ops.specs.declared.op.ObjectId.{ObjectId}
 use Rattle.gf_groups.specs.declared.group.Group.{Group}
-use Rattle.gf_table.specs.declared.versions.TheConstants.{MOST_COUNTED}
-use Rattle.gf_table.specs.Standing.{AreAllOf}
+use Rattle.gf_listing.specs.declared.versions.TheConstants.{MOST_COUNTED}
+use Rattle.gf_listing.specs.Listed.{AreAllOf}
 
 -- n, or one more than the most versions that are counted where it is more than these
 abbrev pub capped : ℕ → ℕ

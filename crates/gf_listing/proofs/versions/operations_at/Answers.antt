@@ -2,9 +2,9 @@ use Rattle.std.proofs.Common.{◌≡◌, get_or, length, map, refl, subst, take,
 use Rattle.std.specs.Prelude.{None, Some, slice_get}
 use Rattle.std.proofs.lemmas.List.{map-append, take_more}
 use Rattle.std.proofs.lemmas.Option.{slice_get_past, slice_get_read}
-use Rattle.gf_table.proofs.PositionLemmas.{none_more, one_more}
-use Rattle.gf_table.proofs.versions.operations_at.Goals as goal
-use Rattle.gf_table.proofs.versions.operations_at.Goals.{in-Some+in_ok-push, in_default}
+use Rattle.gf_listing.proofs.PositionLemmas.{none_more, one_more}
+use Rattle.gf_listing.proofs.versions.operations_at.Goals as goal
+use Rattle.gf_listing.proofs.versions.operations_at.Goals.{in-Some+in_ok-push, in_default}
 
 pub loop-position-preserved : goal.loop-position-preserved
 loop-position-preserved c =

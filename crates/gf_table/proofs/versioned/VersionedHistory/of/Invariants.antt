@@ -1,5 +1,0 @@
-use Rattle.std.proofs.Common.{◌≡◌, take}
-use Rattle.gf_table.proofs.versioned.VersionedHistory.of.Given as goal
-
-abbrev pub invariant-loop-op : goal.invariant-loop-op
-invariant-loop-op l = l.versioned ≡ take l.op-index l.op-items
