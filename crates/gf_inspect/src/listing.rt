@@ -9,9 +9,9 @@ ghost use Rattle.gf_inspect.specs.ObjectVersions.{AreVersionsOf};
 ghost use Rattle.gf_inspect.specs.Falling.{falling_cmp, IsSettledFalling};
 
 use gf_groups::{Group, GroupFault};
+use gf_listing::{Versions, groups_of};
 use gf_ops::{History, ObjectId};
 use gf_shape::OutOfMemory;
-use gf_listing::{Versions, groups_of};
 use gf_versions::{Version, settle_all};
 use std::alloc::Global;
 

@@ -8,10 +8,10 @@ ghost use Rattle.gf_inspect.specs.Told.{told_top, told_version};
 use crate::{VersionName, json, texts, versions_with};
 use gf_groups::GroupFault;
 use gf_json::Notation;
+use gf_listing::Versions;
 use gf_names::objects;
 use gf_ops::ObjectId;
 use gf_shape::{OutOfMemory, Point};
-use gf_listing::Versions;
 use gf_versions::{MOST_VERSIONS, Version};
 use std::alloc::{AllocError, Global};
 

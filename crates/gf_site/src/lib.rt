@@ -1,4 +1,4 @@
-//! One site: its number, and a replica: a history with its versions, and what waits.
+//! One site: its number, and a replica: a history with its table, and what waits.
 //!
 //! - [`Replica`]: receives operations of any sites, and steps.
 //! - [`Site`]: a replica under a number. It makes operations of changes, too.

@@ -2,9 +2,9 @@
 
 use crate::lines::history;
 use anyhow::Result;
+use gf_listing::groups_of;
 use gf_ops::{ObjectId, OpId};
 use gf_plane::Rgb;
-use gf_listing::groups_of;
 use gf_visible::ranked;
 use std::alloc::Global;
 

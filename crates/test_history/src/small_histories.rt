@@ -2,8 +2,8 @@
 //! against the definition of versions.
 
 use crate::version_commands::text_of;
-use gf_ops::{AddFault, Form, History, ObjectId, Op, OpId, Value, conflicts};
 use gf_listing::groups_of;
+use gf_ops::{AddFault, Form, History, ObjectId, Op, OpId, Value, conflicts};
 use std::alloc::Global;
 use test_kit::notation::push_ids;
 use test_kit::{BLUE, GREEN, changed, create};

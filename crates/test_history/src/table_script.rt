@@ -1,4 +1,4 @@
-//! The commands that act on a site, which has a table of versions.
+//! The commands that act on a site, which has a table.
 
 use crate::{looking, rounds, table_commands, version_commands};
 use gf_site::Site;
