@@ -46,14 +46,14 @@ too. Laws name [some more](CLAIMS.md#laws-each-named-by-its-claim), in `specs/` 
 |---|---|---|---|
 {counts}
 
-To read the definitions of a command in one go, each with its comment, type its letter:
-`docs/definitions.py f | less`.
+To read the definitions of a command in one go, file by file and each with its comment, type its
+letter: `docs/definitions.py f | less`.
 
 ## What `fig` rests on
 
 Each file stands in `specs/` of its crate. The letters behind its name are those of the commands that
-rest on it. Where only some of its definitions count for `fig`, these are named. Where no source is
-named, the choice is this project's.
+rest on it. Where only some of its definitions count for `fig`, it is told how many of how many. Where
+no source is named, the choice is this project's.
 
 {fig}
 
@@ -146,9 +146,9 @@ class File:
         short = re.sub(r"Xfig(,|'s) FIG Format 3\.2", "FIG 3.2", whole)
         return re.sub(r" by serde_json's (value|compact text)", "", short)
 
-    def named(self, counted):
-        """Those of its definitions that count."""
-        return " ".join(f"`{name}`" for name in self.definitions if name in counted)
+    def share(self, counted):
+        """How many of its definitions count, where not all do."""
+        return "" if counted == set(self.definitions) else f", {len(counted)} of {len(self.definitions)}"
 
 
 def read(path):
@@ -315,8 +315,8 @@ def page(files):
         own = {name for name in counted if (at, name) in found["f"]}
         place = file.module.replace(".", "/")
         if own:
-            named = f" {file.named(own)}" if own != set(file.definitions) else ""
-            fig.setdefault(file.crate, []).append(f"`{place}` ({letters(at, counted)}): {file.sentence()}{named}")
+            told = f"`{place}` ({letters(at, counted)}{file.share(own)}): {file.sentence()}"
+            fig.setdefault(file.crate, []).append(told)
         if more := counted - own:
             added.setdefault(file.crate, {}).setdefault(letters(at, more), []).append(f"`{place}`")
     types, kit = {}, {}
