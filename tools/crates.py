@@ -48,7 +48,7 @@ def main():
     if '--check' not in sys.argv:
         PAGE.write_text(made())
     elif not PAGE.exists() or PAGE.read_text() != made():
-        sys.exit('crates/README.md is not what docs/crates.py makes of crates/: run it')
+        sys.exit('crates/README.md is not what tools/crates.py makes of crates/: run it')
 
 
 main()

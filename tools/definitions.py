@@ -1,9 +1,9 @@
 #!/usr/bin/env python3
 """Makes docs/DEFINITIONS.md from the contracts and the specs: what the whole contract of each command rests on.
 
-    docs/definitions.py            writes the page
-    docs/definitions.py --check    writes nothing, and has status 1 where the page is not the one that would be made
-    docs/definitions.py LETTER     prints the definitions themselves on which the command of this letter rests
+    tools/definitions.py            writes the page
+    tools/definitions.py --check    writes nothing, and has status 1 where the page is not the one that would be made
+    tools/definitions.py LETTER     prints the definitions themselves on which the command of this letter rests
 
 A contract rests on the names in its clauses, and a definition on those in its text, but for the names that these bind
 themselves and for fields. A file of definitions is headed by one sentence, with its source in brackets. The status of
@@ -47,7 +47,7 @@ too. Laws name [some more](CLAIMS.md#laws-each-named-by-its-claim), in `specs/` 
 {counts}
 
 To read the definitions of a command in one go, file by file and each with its comment, type its
-letter: `docs/definitions.py f | less`.
+letter: `tools/definitions.py f | less`.
 
 ## What `fig` rests on
 
@@ -350,7 +350,7 @@ def main():
     for path, function, module in false_heads(files):
         sys.exit(f"{path.relative_to(ROOT)}: a clause of {function} rests on {module}, which says that none does")
     if PAGE.read_text() != made:
-        sys.exit("docs/DEFINITIONS.md is not what docs/definitions.py makes of the contracts and the specs: run it")
+        sys.exit("docs/DEFINITIONS.md is not what tools/definitions.py makes of the contracts and the specs: run it")
 
 
 main()

@@ -1,15 +1,16 @@
 #!/usr/bin/env python3
 """Says which links of the pages lead nowhere: to a file that is not there, or to a heading that its page has not.
 
-Read are README.md, docs/*.md, crates/README.md and examples/*/README.md. Links into the web are left alone. With --check or without,
-nothing is written, and the status is 1 where a link is told."""
+Read are README.md, docs/*.md, crates/README.md and examples/*/README.md. Links into the web are left alone. With --check
+or without, nothing is written, and the status is 1 where a link is told."""
 
 import re
 import sys
 from pathlib import Path
 
 ROOT = Path(__file__).resolve().parent.parent
-PAGES = [ROOT / 'README.md', *sorted(ROOT.glob('docs/*.md')), ROOT / 'crates/README.md', *sorted(ROOT.glob('examples/*/README.md'))]
+PAGES = [ROOT / page for page in ('README.md', 'crates/README.md')]
+PAGES += sorted([*ROOT.glob('docs/*.md'), *ROOT.glob('examples/*/README.md')])
 LINK = re.compile(r'\]\(([^()\s]+)\)')
 
 

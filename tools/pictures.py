@@ -1,11 +1,11 @@
 #!/usr/bin/env python3
-"""Draws the diagrams of the documents, as SVG beside this file. With --check it only compares them."""
+"""Draws the diagrams of the pages, as SVG in docs/pictures/. With --check it only compares them."""
 
 import math
 import sys
 from pathlib import Path
 
-FOLDER = Path(__file__).resolve().parent
+FOLDER = Path(__file__).resolve().parent.parent / "docs/pictures"
 INK, FAINT, FILL = "#222222", "#888888", "#eef2f7"
 RED, GREEN, BLUE = "#c0392b", "#2e8b57", "#2f5fb3"
 
@@ -248,7 +248,7 @@ def main():
         if "--check" not in sys.argv:
             path.write_text(made)
         elif path.read_text() != made:
-            sys.exit(f"{path.name} is not what draw.py draws: run it")
+            sys.exit(f"{path.name} is not what tools/pictures.py draws: run it")
 
 
 main()
