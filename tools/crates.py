@@ -13,8 +13,8 @@ ROOT = Path(__file__).resolve().parent.parent
 PAGE = ROOT / 'crates/README.md'
 HEAD = """# Crates
 
-Each crate stands on those that its line in [crates.txt](../crates.txt) names; lower ones come first.
-What a crate does in more than this sentence stands at the head of its `src/lib.rt`.
+Each crate stands on those that its line in [crates.txt](../crates.txt) names, and lower ones come
+first. What a crate does in more than this sentence stands at the head of its `src/lib.rt`.
 [ARCHITECTURE](../docs/ARCHITECTURE.md) tells how data goes through them.
 """
 

@@ -38,9 +38,10 @@ COMMANDS = {
 PRIVATE = "No public clause cites this module."
 HEAD = """# Definitions
 
-What has to be believed for a claim: all else is proved. A script makes this page from the contracts
-and the specs. For each command it counts all definitions on which the whole contract rests, refusals
-too. Laws name [some more](CLAIMS.md#laws-each-named-by-its-claim), in `specs/` of their crates.
+What has to be believed for a claim: all else is proved. `tools/definitions.py` makes this page from
+the contracts and the specs. For each command it counts the definitions on which the whole contract
+rests, refusals too. Laws name [some more](CLAIMS.md#laws-each-named-by-its-claim), in `specs/` of
+their crates.
 
 | command | letter | definitions | their lines |
 |---|---|---|---|
@@ -51,9 +52,9 @@ letter: `tools/definitions.py f | less`.
 
 ## What `fig` rests on
 
-Each file stands in `specs/` of its crate. The letters behind its name are those of the commands that
-rest on it. Where only some of its definitions count for `fig`, it is told how many of how many. Where
-no source is named, the choice is this project's.
+Each file stands in `specs/` of its crate. Behind its name are the letters of the commands that rest
+on it, and how many of its definitions count for `fig`, if not all do. Where no source is named, the
+choice is this project's.
 
 {fig}
 
