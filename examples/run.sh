@@ -12,6 +12,7 @@
 set -eu
 examples=$(cd "$(dirname "$0")" && pwd)
 root=$(dirname "$examples")
+tools=$root/tools
 reader=$root/crates/bench_fig/out/bench_fig
 output=$(mktemp)
 pixels=$(mktemp)
@@ -171,7 +172,7 @@ compare_pictures() {
 # Each picture of the file pictures, a line of its name, a pattern of the names of its files, and its window.
 compare_pngs() {
     while read -r picture files window; do
-        python3 "$examples/pixels.py" "$example/$picture" > "$pixels"
+        python3 "$tools/pixels.py" "$example/$picture" > "$pixels"
         set -- "$example"/$files
         if [ -e "$example/sites" ]; then
             compare "$(basename "$example"), $picture" "$pixels" edited_picture "$(cat "$example/sites")" "$window" "$1"
@@ -213,7 +214,7 @@ compare_taken() {
 
 is_current() {
     [ -x "$reader" ] || return 1
-    newer=$(find "$root/crates.txt" "$root/crates" -name out -prune -o -type f -newer "$reader" -print | head -n 1)
+    newer=$(find "$root/crates.txt" "$root/crates" -name out -prune -o -type f ! -name README.md -newer "$reader" -print | head -n 1)
     [ -z "$newer" ]
 }
 
@@ -282,22 +283,22 @@ for awk in $awks; do
 done
 compare "program" "$examples/program/expected.txt" env PATH="$root/bin:$PATH" \
     python3 "$examples/program/program.py" "$examples/red-box/input.jsonl"
-compare "random drawings made plain" /dev/null env PATH="$root/bin:$PATH" python3 "$examples/random_plain.py" 1 100
-compare "random takes" /dev/null env PATH="$root/bin:$PATH" python3 "$examples/random_takes.py" 1 400 30
+compare "random drawings made plain" /dev/null env PATH="$root/bin:$PATH" python3 "$tools/random_plain.py" 1 100
+compare "random takes" /dev/null env PATH="$root/bin:$PATH" python3 "$tools/random_takes.py" 1 400 30
 
 # In place of each window stands what xfig saved of it, named by the site and how many operations it had.
 export FIG_EDITOR="cp $examples/tutorial/saved/site-\$(cat site)-\$(wc -l < site-\$(cat site).jsonl).fig"
 for folder in "$examples"/xfig/*/; do
     compare_taken "${folder%/}"
 done
-compare "README" /dev/null python3 "$examples/transcript.py" "$root/README.md" "$root"
+compare "README" /dev/null python3 "$tools/transcript.py" "$root/README.md" "$root"
 for page in DRAWING CONFLICTS FORMATS; do
-    compare "$page" /dev/null python3 "$examples/transcript.py" "$root/docs/$page.md" "$root"
+    compare "$page" /dev/null python3 "$tools/transcript.py" "$root/docs/$page.md" "$root"
 done
 if command -v git > /dev/null; then
     compare "by-git" /dev/null env GIT_CONFIG_GLOBAL=/dev/null GIT_CONFIG_NOSYSTEM=1 \
         FIG_EDITOR="cp '$examples/by-git/saved/site-'\$(cat site).fig" \
-        python3 "$examples/transcript.py" "$examples/by-git/README.md" "$root"
+        python3 "$tools/transcript.py" "$examples/by-git/README.md" "$root"
 else
     echo "by-git: skipped, as there is no git"
 fi

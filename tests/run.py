@@ -1,7 +1,7 @@
 #!/usr/bin/env python3
 """Runs the program once for each row of the tables in rows/, and compares what it answers: tests/run.py [PROGRAM].
 
-The words of a row stand behind settings. READ, ROOM, MOST and ALLOCATION are those of bench/refuse.c: READ=0..9 stands for
+The words of a row stand behind settings. READ, ROOM, MOST and ALLOCATION are those of tools/refuse.c: READ=0..9 stands for
 ten runs. NAME is the word by which the program is called, and 2>/dev/full a standard error that takes nothing.
 
 The input is told by pieces (`input`), by FIG objects with a blank behind each word (`objects`), or by operations. The output
@@ -23,7 +23,7 @@ from histories import Unreadable, lines
 from tables import TESTS, joined, read_table, unescaped
 
 ROOT = TESTS.parent
-sys.path.insert(0, str(ROOT / "bench"))
+sys.path.insert(0, str(ROOT / "tools"))
 from preloaded import build_library  # noqa: E402
 
 INPUTS = ["input", "objects", "operations"]

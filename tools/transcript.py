@@ -70,7 +70,7 @@ def main():
                 continue
             picture = os.path.join(os.path.dirname(name), link)
             shown = subprocess.run(
-                ["python3", os.path.join(root, "examples", "pixels.py"), picture], stdout=subprocess.PIPE, check=True
+                ["python3", os.path.join(root, "tools", "pixels.py"), picture], stdout=subprocess.PIPE, check=True
             ).stdout
             if shown != pixels:
                 failed += 1

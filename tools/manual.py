@@ -92,7 +92,7 @@ def main():
         if '--check' not in sys.argv:
             path.write_text(text)
         elif not path.exists() or path.read_text() != text:
-            print(f'{path.relative_to(ROOT)} is not what docs/manual.py makes', file=sys.stderr)
+            print(f'{path.relative_to(ROOT)} is not what tools/manual.py makes', file=sys.stderr)
             status = 1
     sys.exit(status)
 

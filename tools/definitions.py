@@ -1,12 +1,16 @@
 #!/usr/bin/env python3
 """Makes docs/DEFINITIONS.md from the contracts and the specs: what the whole contract of each command rests on.
 
+    tools/definitions.py            writes the page
+    tools/definitions.py --check    writes nothing, and has status 1 where the page is not the one that would be made
+    tools/definitions.py LETTER     prints the definitions themselves on which the command of this letter rests
+
 A contract rests on the names in its clauses, and a definition on those in its text, but for the names that these bind
-themselves and for fields. A file of definitions is headed by one sentence, with its source in brackets. With --check
-nothing is written, and the status is 1 where the page is not the one that would be made. It is 1 too where a file says
-that no public clause cites it, and the clause of a public function rests on it."""
+themselves and for fields. A file of definitions is headed by one sentence, with its source in brackets. The status of
+--check is 1, too, where a file says that no public clause cites it, and the clause of a public function rests on it."""
 
 import re
+import signal
 import sys
 import textwrap
 from dataclasses import dataclass, field
@@ -34,25 +38,30 @@ COMMANDS = {
 PRIVATE = "No public clause cites this module."
 HEAD = """# Definitions
 
-What has to be believed for a claim: all else is proved. `docs/definitions.py` makes this page from
-the contracts and the specs. Each definition that the whole contract of a command rests on, refusals
-too, stands in one of these files. [Laws](CLAIMS.md#laws-each-named-by-its-claim) name some more, in
-`specs/` of their crates. Where no source is named, the choice is this project's.
+What has to be believed for a claim: all else is proved. `tools/definitions.py` makes this page from
+the contracts and the specs. For each command it counts the definitions on which the whole contract
+rests, refusals too. Laws name [some more](CLAIMS.md#laws-each-named-by-its-claim), in `specs/` of
+their crates.
 
 | command | letter | definitions | their lines |
 |---|---|---|---|
 {counts}
 
+To read the definitions of a command in one go, file by file and each with its comment, type its
+letter: `tools/definitions.py f | less`.
+
 ## What `fig` rests on
 
 Each file stands in `specs/` of its crate. Behind its name are the letters of the commands that rest
-on it. Where only some of its definitions count for `fig`, these are named.
+on it, and how many of its definitions count for `fig`, if not all do. Where no source is named, the
+choice is this project's.
 
 {fig}
 
 ## What other commands add
 
-Of a file that stands above, the definitions are named that come to those of `fig`.
+Here stand the files of which other commands take definitions that `fig` does not need. Each letter
+is that of such a command. The first sentence of a file says what it defines.
 
 {added}
 
@@ -91,11 +100,12 @@ def bound_in(text):
 
 @dataclass
 class Definition:
-    """A definition: its text, and the parameters of the blocks that it stands in."""
+    """A definition: its text, the parameters of the blocks that it stands in, and the comment before it."""
 
     name: str
     text: str = ""
     parameters: str = ""
+    comment: str = ""
 
     def names(self):
         """The names that it rests on."""
@@ -137,9 +147,9 @@ class File:
         short = re.sub(r"Xfig(,|'s) FIG Format 3\.2", "FIG 3.2", whole)
         return re.sub(r" by serde_json's (value|compact text)", "", short)
 
-    def named(self, counted):
-        """Those of its definitions that count."""
-        return " ".join(f"`{name}`" for name in self.definitions if name in counted)
+    def share(self, counted):
+        """How many of its definitions count, where not all do."""
+        return "" if counted == set(self.definitions) else f", {len(counted)} of {len(self.definitions)}"
 
 
 def read(path):
@@ -148,11 +158,14 @@ def read(path):
     text = path.read_text()
     head = re.match(r"(?:--[^\n]*\n)*", text).group(0)
     file = File(crate, module, " ".join(line[2:].strip() for line in head.splitlines()), imports_of(text))
-    code = re.sub(r"(?m)^\s*(?:--|use ).*\n", "", text)
+    code = re.sub(r"(?m)^\s*use .*\n", "", text.removeprefix(head))
     # The blocks with parameters around a line, and the definition that it goes on: each with its indentation.
-    blocks, now, depth, heading = [], None, 0, None
+    blocks, now, depth, heading, comment = [], None, 0, None, ""
     for line in code.splitlines():
         if not line.strip():
+            continue
+        if line.lstrip().startswith("--"):
+            comment += f"{line}\n"
             continue
         indent = len(line) - len(line.lstrip())
         if line.lstrip().startswith("module _"):
@@ -166,7 +179,8 @@ def read(path):
         if found and (now is None or indent <= depth):
             blocks = [it for it in blocks if it[0] < indent]
             name, depth = found.group(1) or found.group(2), indent
-            now = file.definitions.setdefault(name, Definition(name, "", "".join(it[1] for it in blocks)))
+            now = file.definitions.setdefault(name, Definition(name, "", "".join(it[1] for it in blocks), comment))
+        comment = ""
         if now:
             now.text += f"{line}\n"
     return file
@@ -251,13 +265,39 @@ def item(text):
     return textwrap.fill(f"- {text}", 100, subsequent_indent="  ", break_long_words=False, break_on_hyphens=False)
 
 
+def by_letters(files):
+    """Lists of files, each before the letters of the commands that rest on them."""
+    return "; ".join(f"{', '.join(names)} ({letters})" for letters, names in files.items())
+
+
 def by_crate(files):
     """Lists of files, each under the name of its crate."""
     return "\n\n".join("\n".join([f"`{crate}`", "", *map(item, texts)]) for crate, texts in files.items())
 
 
+def crates():
+    """The crates, the lowest first."""
+    return [line.split(":")[0] for line in (ROOT / "crates.txt").read_text().splitlines() if ":" in line]
+
+
+def sorted_by_crate(files):
+    order = crates()
+    return sorted(files, key=lambda at: (order.index(files[at].crate), at))
+
+
+def text_of(files, letter):
+    """The definitions on which a command rests, file by file, each with its comment."""
+    counted = rests_on(files, COMMANDS[letter][1])
+    for at in sorted_by_crate(files):
+        file = files[at]
+        own = [it for name, it in file.definitions.items() if (at, name) in counted]
+        if own:
+            yield f"{'-' * 100}\n-- {file.crate}/specs/{file.module.replace('.', '/')}.antt: {file.head}\n"
+            yield from (f"{it.comment}{it.parameters}{it.text}" for it in own)
+
+
 def page(files):
-    order = [line.split(":")[0] for line in (ROOT / "crates.txt").read_text().splitlines() if ":" in line]
+    order = crates()
     found = {letter: rests_on(files, places) for letter, (_, places) in COMMANDS.items()}
     every = set().union(*found.values())
 
@@ -270,17 +310,16 @@ def page(files):
 
     counts = [f"| {name} | {letter} | {count(found[letter])} |" for letter, (name, _) in COMMANDS.items()]
     fig, added = {}, {}
-    for at in sorted(files, key=lambda at: (order.index(files[at].crate), at)):
+    for at in sorted_by_crate(files):
         file = files[at]
         counted = {name for module, name in every if module == at}
         own = {name for name in counted if (at, name) in found["f"]}
         place = file.module.replace(".", "/")
         if own:
-            named = f" {file.named(own)}" if own != set(file.definitions) else ""
-            fig.setdefault(file.crate, []).append(f"`{place}` ({letters(at, counted)}): {file.sentence()}{named}")
+            told = f"`{place}` ({letters(at, counted)}{file.share(own)}): {file.sentence()}"
+            fig.setdefault(file.crate, []).append(told)
         if more := counted - own:
-            meaning = file.named(more) if own else file.sentence()
-            added.setdefault(file.crate, []).append(f"`{place}` ({letters(at, more)}): {meaning}")
+            added.setdefault(file.crate, {}).setdefault(letters(at, more), []).append(f"`{place}`")
     types, kit = {}, {}
     for module, name in every - {it for it in every if it[0] in files}:
         crate = module.split(".")[0]
@@ -290,21 +329,29 @@ def page(files):
             kit.setdefault(crate, set()).add(name)
     listed = [item(f"`{it}`: {', '.join(f'`{name}`' for name in sorted(types[it]))}") for it in order if it in types]
     return HEAD.format(
-        counts="\n".join([*counts, f"| all | | {count(every)} |"]), fig=by_crate(fig), added=by_crate(added),
+        counts="\n".join([*counts, f"| all | | {count(every)} |"]), fig=by_crate(fig),
+        added="\n".join(item(f"`{crate}`: {by_letters(added[crate])}") for crate in added),
         types="\n".join(listed), kit=", ".join(f"{len(kit[it])} of {it}" for it in sorted(kit)),
     )
 
 
 def main():
     files = read_all()
+    asked = sys.argv[1] if len(sys.argv) > 1 else None
+    if asked in COMMANDS:
+        signal.signal(signal.SIGPIPE, signal.SIG_DFL)
+        print(*text_of(files, asked), sep="\n")
+        return
     made = page(files)
-    if "--check" not in sys.argv:
+    if asked is None:
         PAGE.write_text(made)
         return
+    if asked != "--check":
+        sys.exit(f"no letter of a command: {asked}; docs/DEFINITIONS.md has them")
     for path, function, module in false_heads(files):
         sys.exit(f"{path.relative_to(ROOT)}: a clause of {function} rests on {module}, which says that none does")
     if PAGE.read_text() != made:
-        sys.exit("docs/DEFINITIONS.md is not what docs/definitions.py makes of the contracts and the specs: run it")
+        sys.exit("docs/DEFINITIONS.md is not what tools/definitions.py makes of the contracts and the specs: run it")
 
 
 main()

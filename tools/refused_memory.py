@@ -136,7 +136,7 @@ def refuse_each(refuser, trial):
 
 def is_current(program):
     """Whether the program is there and no older than its sources."""
-    sources = [path for path in (ROOT / "crates").rglob("*") if path.is_file() and "out" not in path.parts]
+    sources = [path for path in (ROOT / "crates").rglob("*") if path.is_file() and path.name != "README.md" and "out" not in path.parts]
     newest = max(path.stat().st_mtime for path in [ROOT / "crates.txt", *sources])
     return program.exists() and program.stat().st_mtime >= newest
 

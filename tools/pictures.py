@@ -1,11 +1,11 @@
 #!/usr/bin/env python3
-"""Draws the diagrams of the documents, as SVG beside this file. With --check it only compares them."""
+"""Draws the diagrams of the pages, as SVG in docs/pictures/. With --check it only compares them."""
 
 import math
 import sys
 from pathlib import Path
 
-FOLDER = Path(__file__).resolve().parent
+FOLDER = Path(__file__).resolve().parent.parent / "docs/pictures"
 INK, FAINT, FILL = "#222222", "#888888", "#eef2f7"
 RED, GREEN, BLUE = "#c0392b", "#2e8b57", "#2f5fb3"
 
@@ -92,6 +92,32 @@ def way():
     picture.text(92, 130, "import", 11, FAINT, "start", "monospace")
     picture.arrow(650, 90, 780, 180)
     picture.text(730, 130, "versions", 11, INK, "start", "monospace")
+    return picture
+
+
+def commands():
+    """What each command reads and writes."""
+    picture = Picture(900, 330)
+    picture.box(20, 110, 170, 70, "commands", "of one site or more")
+    picture.box(350, 110, 190, 70, "operation lines", "a file a site")
+    picture.box(700, 110, 180, 70, "FIG text", "perhaps with names")
+    picture.box(350, 255, 190, 55, "what is told", "in words or as JSON")
+    picture.box(700, 255, 180, 55, "picture", "PPM")
+    picture.arrow(190, 145, 350, 145, "edit")
+    picture.arrow(540, 130, 700, 130, "fig")
+    picture.arrow(700, 160, 540, 160, "take", lift=16)
+    picture.line(790, 110, 790, 50)
+    picture.line(790, 50, 105, 50)
+    picture.arrow(105, 50, 105, 110)
+    picture.text(445, 42, "import", 11, INK, family="monospace")
+    picture.arrow(445, 180, 445, 255)
+    picture.text(436, 221, "status, check, inspect", 11, INK, "end", "monospace")
+    picture.arrow(540, 180, 700, 262)
+    picture.text(600, 232, "paint", 11, INK, "end", "monospace")
+    picture.arrow(790, 180, 790, 255)
+    picture.text(798, 221, "repaint", 11, INK, "start", "monospace")
+    picture.arrow(105, 180, 350, 275)
+    picture.text(190, 240, "session", 11, INK, "end", "monospace")
     return picture
 
 
@@ -217,12 +243,12 @@ def session():
 
 
 def main():
-    for draw in (way, take, causal, conflicts, row, session):
+    for draw in (way, commands, take, causal, conflicts, row, session):
         path, made = FOLDER / f"{draw.__name__}.svg", draw().svg()
         if "--check" not in sys.argv:
             path.write_text(made)
         elif path.read_text() != made:
-            sys.exit(f"{path.name} is not what draw.py draws: run it")
+            sys.exit(f"{path.name} is not what tools/pictures.py draws: run it")
 
 
 main()
