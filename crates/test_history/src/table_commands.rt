@@ -6,7 +6,7 @@ use crate::version_commands::text_of;
 use gf_drawing::compile;
 use gf_figures::Drawing;
 use gf_groups::{GroupFault, Groups, is_made};
-use gf_listing::Versions;
+use gf_listing::{ListGroups, Versions};
 use gf_ops::ObjectId;
 use gf_shape::AnyShape;
 use gf_site::Site;
