@@ -128,6 +128,17 @@ def colour_rounds(count):
     return lines(made)
 
 
+def aimed_rounds(count):
+    """A red box, to which two sites give two colours at once, so many times. After each time site 1 hides the version that
+    holds the colour of site 2 and its own earlier ones, by an aim at all of these."""
+    made = ["1.1: box 10 10, colour ff0000"]
+    for n in range(1, count + 1):
+        made += both(2 * n, 2 * n - 1, n - 1, "1.1 colour 0000ff", "1.1 colour 00ff00")
+        aim = " ".join(["1.1", *(f"1.{2 * k}" for k in range(1, n)), f"2.{n}"])
+        made.append(f"1.{2 * n + 1} after {2 * n} {n}: 1.1 shown false aim {aim}")
+    return lines(made)
+
+
 def layer_rounds(count):
     """A box, to which two sites give two layers at once, so many times."""
     made = ["1.1: box 1 1"]
@@ -162,6 +173,7 @@ def session_boxes(first, second):
 
 
 GENERATED = {
+    "aimed_rounds": aimed_rounds,
     "boxes": boxes,
     "named_boxes": named_boxes,
     "coloured_boxes": coloured_boxes,

@@ -15,6 +15,8 @@ use Rattle.std.proofs.lemmas.Bool.{not-true, not_from_false}
 use Rattle.std.proofs.lemmas.Cmp.{nat_cmp_total}
 use Rattle.std.proofs.lemmas.List.Elements.{All-nil, All-cons, All-head, All-tail, filter-append}
 use Rattle.std.proofs.lemmas.List.Elements.{All-from_recursion, recursion_from_All}
+use Rattle.std.proofs.lemmas.List.Elements.{Contains-append_cases, Contains-append_left}
+use Rattle.std.proofs.lemmas.List.Elements.{Contains-append_right}
 use Rattle.std.proofs.lemmas.List.Kept.{IsStrictlySortedBy-filter}
 use Rattle.gf_base.proofs.ListLemmas.{Contains-cons_cases, Contains-cons_head, Contains-cons_tail}
 use Rattle.gf_base.proofs.ListLemmas.{Contains-map, Contains-map_from, not_Contains-nil}
@@ -28,7 +30,7 @@ use Rattle.gf_maximal.proofs.MaximalLemmas.{Contains-without}
 use Rattle.gf_base.proofs.PairLemmas.{AllPairs-append}
 use Rattle.gf_base.proofs.RisingLemmas.{one_rising, rising_nil}
 use Rattle.gf_visible.specs.Choices.{StepState, holds, all_hold, choices, first, second, step_of}
-use Rattle.gf_visible.specs.Choices.{showing, IsShowing, AreShowing}
+use Rattle.gf_visible.specs.Choices.{hiding_first, showing, IsShowing, AreShowing}
 use Rattle.gf_visible.proofs.SearchLemmas.{ways, by_chosen, by_left, choices_in, choices_out}
 use Rattle.gf_visible.proofs.SearchLemmas.{choice_within, or_first, or_second}
 
@@ -83,6 +85,26 @@ choice_rises (s ∷ steps) p g r i = elim (ways s steps p g i) [
   ]
 ]
 
+-- ---- those that hide before the others
+
+module _ (hides : ℕ → Bool) (us : List ℕ) where
+  abbrev shows : ℕ → Bool
+  shows x = not (hides x)
+
+  pub within_order : Within (hiding_first hides us) us
+  within_order x i = elim (Contains-append_cases (filter hides us) (filter shows us) x i) [
+    | inl j ↦ ((Contains-filter hides us x).0 j).0
+    | inr j ↦ ((Contains-filter shows us x).0 j).0
+  ]
+
+  pub in_order : Within us (hiding_first hides us)
+  in_order x i = elim (cases_Bool (hides x)) [
+    | inl h ↦ Contains-append_left (filter hides us) (filter shows us) x
+        ((Contains-filter hides us x).1 (i, h))
+    | inr n ↦ Contains-append_right (filter hides us) (filter shows us) x
+        ((Contains-filter shows us x).1 (i, not_from_false (hides x) n))
+  ]
+
 -- ---- one step
 
 module _ (hides : ℕ → Bool) (covers rivals : ℕ → ℕ → Bool) (us : List ℕ) where
@@ -91,6 +113,10 @@ module _ (hides : ℕ → Bool) (covers rivals : ℕ → ℕ → Bool) (us : Lis
 
   abbrev steps : List ℕ → List StepState
   steps xs = map (step_of hides covers rivals us) xs
+
+  -- the positions in the order of their steps
+  abbrev os : List ℕ
+  os = hiding_first hides us
 
   alone : (x : ℕ) (g : List ℕ) → intersects (x ∷ []) g ≡ true → Contains g x
   alone x g t = let w = intersects_one (x ∷ []) g t in elim (Contains-cons_cases x [] w.0 w.1) [
@@ -206,25 +232,26 @@ module _ (hides : ℕ → Bool) (covers rivals : ℕ → ℕ → Bool) (us : Lis
     ]
   ]
 
-  all_held : (g : List ℕ) → all_hold (steps us) g ≡ true → (x : ℕ) → Contains us x → Held g x
-  all_held g t x i = held x g (list_all_true (holds g) (steps us) t (step x)
-      (Contains-map (step_of hides covers rivals us) us x i))
+  all_held : (g : List ℕ) → all_hold (steps os) g ≡ true → (x : ℕ) → Contains us x → Held g x
+  all_held g t x i = held x g (list_all_true (holds g) (steps os) t (step x)
+      (Contains-map (step_of hides covers rivals us) os x (in_order hides us x i)))
 
   all_held_from : (g : List ℕ) → Within g us → ((x : ℕ) → Contains us x → Held g x)
-      → all_hold (steps us) g ≡ true
-  all_held_from g within f = list_all_from (holds g) (steps us)
-      (λ s i. let w = Contains-map_from (step_of hides covers rivals us) us s i in
-      subst (λ z. holds g z ≡ true) (sym w.2) (held_from w.0 g within (f w.0 w.1)))
+      → all_hold (steps os) g ≡ true
+  all_held_from g within f = list_all_from (holds g) (steps os)
+      (λ s i. let w = Contains-map_from (step_of hides covers rivals us) os s i in
+      subst (λ z. holds g z ≡ true) (sym w.2)
+      (held_from w.0 g within (f w.0 (within_order hides us w.0 w.1))))
 
   showing_sound : IsRising us → (g : List ℕ) → Contains (showing hides covers rivals us) g
       → IsShowing hides covers rivals us g
   showing_sound form g h =
-      let k = (Contains-filter (all_hold (steps us)) (choices (steps us) us) g).0 h in
-      let within : Within g us = choice_within (steps us) us g k.0 in
-      let calm : (x : ℕ) → Contains g x → ¬ (Hit g x) = λ x i. chosen_calm us us g (λ a j. j) k.0 x
-      (within x i) i in
+      let k = (Contains-filter (all_hold (steps os)) (choices (steps os) us) g).0 h in
+      let within : Within g us = choice_within (steps os) us g k.0 in
+      let calm : (x : ℕ) → Contains g x → ¬ (Hit g x) = λ x i. chosen_calm os us g (λ a j. j) k.0 x
+      (in_order hides us x (within x i)) i in
       record {
-        rises = choice_rises (steps us) us g form k.0;
+        rises = choice_rises (steps os) us g form k.0;
         largest = record {
           within = within;
           compatible = λ a b i j. elim (cases_Bool (rivals a b)) [
@@ -306,8 +333,9 @@ module _ (hides : ℕ → Bool) (covers rivals : ℕ → ℕ → Bool) (us : Lis
         rest = λ a i. all a (Contains-cons_tail x xs a i)
 
     showing_complete : IsRising us → Contains (showing hides covers rivals us) g
-    showing_complete form = (Contains-filter (all_hold (steps us)) (choices (steps us) us) g).1 (
-      found us us form (λ a i. i) w.largest.within (λ a i. inl i),
+    showing_complete form = (Contains-filter (all_hold (steps os)) (choices (steps os) us) g).1 (
+      found os us form (within_order hides us) w.largest.within
+          (λ a i. inl (in_order hides us a i)),
       all_held_from g w.largest.within
           (λ x i. elim (w.largest.largest x i) [ inl j ↦ inl (j, w.covered x j) | inr v ↦ inr v ]),
     )
@@ -316,12 +344,12 @@ module _ (hides : ℕ → Bool) (covers rivals : ℕ → ℕ → Bool) (us : Lis
 
   -- the answers by these steps, in which all hold
   abbrev Told : List ℕ → List ℕ → List (List ℕ)
-  Told xs p = filter (all_hold (steps us)) (choices (steps xs) p)
+  Told xs p = filter (all_hold (steps os)) (choices (steps xs) p)
 
   chosen_has : (x : ℕ) (xs p g : List ℕ) → Contains us x → Within p us
       → Contains (Told xs (without (filter (rivals x) us) p)) g → Contains g x
   chosen_has x xs p g i within h =
-      let k = (Contains-filter (all_hold (steps us))
+      let k = (Contains-filter (all_hold (steps os))
       (choices (steps xs) (without (filter (rivals x) us) p)) g).0 h in
       elim (all_held g k.1 x i) [
         | inl w ↦ w.0
@@ -332,8 +360,8 @@ module _ (hides : ℕ → Bool) (covers rivals : ℕ → ℕ → Bool) (us : Lis
       ]
 
   once_from : (xs p : List ℕ) → Within xs us → Within p us
-      → AllPairs (λ g k. g ≢ k) (filter (all_hold (steps us)) (choices (steps xs) p))
-  once_from [] p all within = few (all_hold (steps us) p) p
+      → AllPairs (λ g k. g ≢ k) (filter (all_hold (steps os)) (choices (steps xs) p))
+  once_from [] p all within = few (all_hold (steps os) p) p
     where
       few : (b : Bool) (g : List ℕ) → AllPairs (λ g k. g ≢ k) (cond b (g ∷ []) [])
       few true g = λ i j d l m. absurd (omega arith)
@@ -341,8 +369,8 @@ module _ (hides : ℕ → Bool) (covers rivals : ℕ → ℕ → Bool) (us : Lis
   once_from (x ∷ xs) p all within = elim (cases_Bool (intersects (x ∷ []) p)) [
     | inl y ↦
         let is : Told (x ∷ xs) p ≡ Told xs (first (step x) p) ++ Told xs (second (step x) p) = ap
-        (filter (all_hold (steps us))) (choices_in (step x) (steps xs) p y)
-        ∙ filter-append (all_hold (steps us)) (choices (steps xs) (first (step x) p))
+        (filter (all_hold (steps os))) (choices_in (step x) (steps xs) p y)
+        ∙ filter-append (all_hold (steps os)) (choices (steps xs) (first (step x) p))
         (choices (steps xs) (second (step x) p)) in
         let of_a = once_from xs a rest
         (λ c j. within c ((Contains-without (filter (rivals x) us) p c).0 j).0) in
@@ -355,7 +383,7 @@ module _ (hides : ℕ → Bool) (covers rivals : ℕ → ℕ → Bool) (us : Lis
               (AllPairs-append (λ g k. g ≢ k) (Told xs a) (Told xs b) of_a of_b differ)
         ])
     | inr n ↦ subst (AllPairs (λ g k. g ≢ k))
-        (sym (ap (filter (all_hold (steps us))) (choices_out (step x) (steps xs) p n)))
+        (sym (ap (filter (all_hold (steps os))) (choices_out (step x) (steps xs) p n)))
         (once_from xs p rest within)
   ]
     where
@@ -372,7 +400,7 @@ module _ (hides : ℕ → Bool) (covers rivals : ℕ → ℕ → Bool) (us : Lis
       differ : (g k : List ℕ) → Contains (Told xs a) g → Contains (Told xs b) k → g ≢ k
       differ g k i j e =
           let has = chosen_has x xs p g (all x (Contains-cons_head x xs)) within i in
-          let of_k = ((Contains-filter (all_hold (steps us)) (choices (steps xs) b) k).0 j).0 in
+          let of_k = ((Contains-filter (all_hold (steps os)) (choices (steps xs) b) k).0 j).0 in
           ((Contains-without (x ∷ []) p x).0
           (choice_within (steps xs) b k of_k x (subst (λ z. Contains z x) e has))).1
           (Contains-cons_head x [])
@@ -386,5 +414,6 @@ showing_all hides covers rivals symmetric alone us form = record {
     showing_sound hides covers rivals us form g,
     λ w. showing_complete hides covers rivals us g w form,
   );
-  once = once_from hides covers rivals us us us (λ a i. i) (λ a i. i);
+  once = once_from hides covers rivals us (hiding_first hides us) us (within_order hides us)
+      (λ a i. i);
 }

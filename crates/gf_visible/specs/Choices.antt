@@ -40,6 +40,10 @@ choices (s ∷ steps) p =
 abbrev pub answers : List StepState → List StepState → List ℕ → List (List ℕ)
 answers all steps p = filter (all_hold all) (choices steps p)
 
+-- the positions us, those that hide before the others
+abbrev pub hiding_first : (ℕ → Bool) → List ℕ → List ℕ
+hiding_first hides us = filter hides us ++ filter (λ x. not (hides x)) us
+
 -- `hides x`: the position x hides. `covers x y`: y covers x. `rivals x y`: x and y conflict
 module _ (hides : ℕ → Bool) (covers rivals : ℕ → ℕ → Bool) where
   -- the step of the position x among the positions us
@@ -51,9 +55,13 @@ module _ (hides : ℕ → Bool) (covers rivals : ℕ → ℕ → Bool) where
     rivals = filter (rivals x) us;
   }
 
+  -- the steps of the positions us, those that hide before the others
+  abbrev pub steps_of : List ℕ → List StepState
+  steps_of us = map (step_of us) (hiding_first hides us)
+
   -- the choices among the positions us
   abbrev pub showing : List ℕ → List (List ℕ)
-  showing us = answers (map (step_of us) us) (map (step_of us) us) us
+  showing us = answers (steps_of us) (steps_of us) us
 
   -- each position of g that hides is covered in g
   abbrev pub IsCovered : List ℕ → Type 0

@@ -1,12 +1,12 @@
 //! The sets that show, of positions that are asked only for what they say of each other.
 
-ghost use Rattle.std.specs.Prelude.{◌≡◌, ◌<◌, ◌+◌, ◌^◌, ◌∷◌, [], ℕ, Bool, All, IfOk};
-ghost use Rattle.std.specs.Prelude.{cond, filter, map, take};
+ghost use Rattle.std.specs.Prelude.{◌≡◌, ◌<◌, ◌+◌, ◌^◌, ◌∷◌, [], ℕ, Bool, All};
+ghost use Rattle.std.specs.Prelude.{IfOk, OnOk, cond, filter, map, not, take};
 ghost use Rattle.std.specs.Fn.{CalledAt};
 ghost use Rattle.std.specs.List.Retain.{IsFiltered};
 ghost use Rattle.std.specs.List.Sorted.{IsStrictlySortedBy};
 ghost use Rattle.std.specs.Ordering.{nat_cmp};
-ghost use Rattle.gf_visible.specs.Choices.{showing, step_of};
+ghost use Rattle.gf_visible.specs.Choices.{hiding_first, showing, step_of, steps_of};
 
 use crate::searching::search;
 use crate::step::Step;
@@ -143,7 +143,42 @@ fn step_of<T: Showing>(
     Ok(Step::new(own, setters.hides(position), covers, rivals))
 }
 
-/// The steps of all positions.
+/// The positions that hide.
+fn hiding_of<T: Showing>(
+    alloc: Global,
+    setters: &T,
+    positions: &[usize],
+) -> Result<Vec<usize>, OutOfMemory>
+    ensures { IfOk result (λ found. found.items ≡ filter (T.hides setters.now) positions.now) }
+{
+    let mut found = Vec::new(alloc);
+    for position in positions {
+        if setters.hides(*position) {
+            found.push(*position)?;
+        }
+    }
+    Ok(found)
+}
+
+/// The positions, those that hide before the others.
+fn hiding_first<T: Showing>(
+    alloc: Global,
+    setters: &T,
+    positions: &[usize],
+) -> Result<Vec<usize>, OutOfMemory>
+    ensures { IfOk result (λ found.
+        found.items ≡ hiding_first (T.hides setters.now) positions.now) }
+{
+    let mut found = hiding_of(alloc, setters, positions)?;
+    for position in positions {
+        if !setters.hides(*position) {
+            found.push(*position)?;
+        }
+    }
+    Ok(found)
+}
+
+/// The steps of all positions, of those that hide before the others.
 fn steps_of<T: Showing>(
     alloc: Global,
     setters: &T,
@@ -151,11 +186,12 @@ fn steps_of<T: Showing>(
 ) -> Result<Vec<Step>, OutOfMemory>
     requires rising { IsStrictlySortedBy nat_cmp positions.now }
     requires bounded { All (λ n. n + 1 < 2 ^ 64) positions.now }
-    ensures { IfOk result (λ steps. steps.items ≡ map (step_of (T.hides setters.now)
-        (T.covers setters.now) (T.rivals setters.now) positions.now) positions.now) }
+    ensures { IfOk result (λ steps. steps.items ≡ steps_of (T.hides setters.now)
+        (T.covers setters.now) (T.rivals setters.now) positions.now) }
 {
+    let order = hiding_first(alloc, setters, positions)?;
     let mut steps = Vec::new(alloc);
-    for position in positions {
+    for position in &order {
         steps.push(step_of(alloc, setters, positions, *position)?)?;
     }
     Ok(steps)
@@ -164,9 +200,10 @@ fn steps_of<T: Showing>(
 /// The largest compatible sets of the positions in which each one that hides is covered, but no
 /// more than `limit`.
 ///
-/// Each two positions are compared. Then each step costs a pass over all of them. The search goes
-/// on only where each may still be chosen and covered, or be left out for a rival. No time is
-/// promised for the whole: for some positions the search takes very long.
+/// Each two positions are compared. Then each step costs a pass over all of them. Those that hide
+/// come first, so a choice that leaves one uncovered is dropped early. The search goes on only
+/// where each may still be chosen and covered, or be left out for a rival. No time is promised for
+/// the whole: for some positions the search takes very long.
 pub fn showing_within<T: Showing>(
     alloc: Global,
     setters: &T,
