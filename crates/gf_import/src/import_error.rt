@@ -2,11 +2,12 @@
 
 ghost use Rattle.std.specs.Prelude.{◌≡◌};
 ghost use Rattle.gf_import.specs.declared.import_error.ImportError.TheVariants as import_error;
+ghost use Rattle.gf_import.specs.ImportRun.{of_import};
 ghost use Rattle.gf_run.specs.declared.studio_error.StudioError.TheVariants as studio;
 
 use crate::FigureFault;
 use gf_fig_read::FigError;
-use gf_run::StudioError;
+use gf_run::{RunError, StudioError};
 use gf_shape::OutOfMemory;
 use thiserror::Error;
 
@@ -45,5 +46,13 @@ impl From<OutOfMemory> for ImportError {
 
     fn from(_: OutOfMemory) -> ImportError {
         ImportError::Run(StudioError::OutOfMemory)
+    }
+}
+
+impl RunError for ImportError {
+    ghost shared = { of_import };
+
+    fn of_run(fault: StudioError) -> ImportError {
+        ImportError::Run(fault)
     }
 }

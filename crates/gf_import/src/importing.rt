@@ -12,19 +12,19 @@ use crate::{CreationError, ImportError, creations};
 use gf_fig_read::{FigError, fault_line, object_line, read_fig};
 use gf_json::{Command, ScriptLine, script_line};
 use gf_ops::Change;
-use gf_run::StudioError;
+use gf_run::{Answer, StudioError};
 use gf_shape::OutOfMemory;
 use std::alloc::Global;
 
 /// The lines of the commands of a site that create the figures of a FIG text.
-pub(crate) fn import(alloc: Global, fig: Vec<u8>, site: u8) -> Result<Vec<u8>, ImportError>
+pub(crate) fn import(alloc: Global, fig: Vec<u8>, site: u8) -> Result<Answer<()>, ImportError>
     requires { IsSite site }
-    ensures ok { IfOk result (λ text. Imports site fig.items text.items) }
+    ensures ok { IfOk result (λ lines. Imports site fig.items lines.text.items) }
     ensures err { IfErr result (RefusesImport fig.items) }
 {
     let changes = changes_of(alloc, &fig)?;
     let text = write_commands(alloc, changes, site)?;
-    Ok(text)
+    Ok(Answer { text, value: () })
 }
 
 /// The creations of the figures of the drawing that a FIG text reads as.

@@ -1,19 +1,19 @@
 //! The whole run over an imported text.
 
-ghost use Rattle.std.specs.Prelude.{◌≢◌, Some, IfSome, IfOk, IfErr, OnOk};
+ghost use Rattle.std.specs.Prelude.{IfSome, IfErr, OnOk};
 ghost use Rattle.gf_ops.specs.OperationOrder.{IsSite};
-ghost use Rattle.gf_run.specs.declared.studio_error.StudioError.{StudioError};
 ghost use Rattle.gf_run.specs.RunAnswers.{LeavesSinkBy, ReadsInputBy};
 ghost use Rattle.gf_import.specs.ImportRun.{Imports, RefusesImportRun, WritesImport, of_import};
 
 use crate::ImportError;
 use crate::importing::import;
-use gf_run::{StudioError, input};
-use gf_streams::{Sink, SinkFault, Source, write_whole};
+use gf_run::run;
+use gf_streams::{Sink, Source};
 use std::alloc::Global;
 
 /// Reads a FIG text to its end, and writes a line for each of its figures. The line is that of a
 /// command of this site that creates the figure. All is read before the first write.
+#[tactic(auto, using(crate::proofs::RunLemmas::run_refused, crate::proofs::RunLemmas::is_between))]
 pub fn import_run<R: Source, W: Sink>(
     alloc: Global,
     source: &mut R,
@@ -37,26 +37,12 @@ pub fn import_run<R: Source, W: Sink>(
     ensures sink { LeavesSinkBy W.Sink (R.left source.old) (Imports site) sink.old sink.new
         of_import result }
 {
-    let text = import_lines(alloc, source, site)?;
-    match write_whole(sink, &text) {
-        Ok(()) => Ok(()),
-        Err(SinkFault) => Err(ImportError::Run(StudioError::WriteFailed)),
-    }
-}
-
-/// The lines of the commands that create the figures of the text of a source.
-fn import_lines<R: Source>(alloc: Global, source: &mut R, site: u8) -> Result<Vec<u8>, ImportError>
-    requires { IsSite site }
-    ensures ok { IfOk result (λ text. IfSome (R.left source.old) (λ fig.
-        Imports site fig text.items)) }
-    ensures source { ReadsInputBy R.Source source.old source.new of_import result }
-    ensures refused { IfErr result (λ e. IfSome (R.left source.old) (λ fig.
-        RefusesImportRun fig e)) }
-    ensures no_write { IfErr result (λ e. of_import e ≢ Some StudioError.WriteFailed) }
-{
-    let fig = match input(alloc, source) {
-        Ok(fig) => fig,
-        Err(fault) => return Err(ImportError::Run(fault)),
-    };
-    import(alloc, fig, site)
+    run(
+        alloc,
+        source,
+        sink,
+        |fig|
+            requires { IsSite site }
+        { import(alloc, fig, site) },
+    )
 }

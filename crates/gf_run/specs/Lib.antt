@@ -1,3 +1,4 @@
 pub mod Refusals
 pub mod RunAnswers
 pub mod RefusedRuns
+pub mod Answers

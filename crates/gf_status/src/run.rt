@@ -1,6 +1,6 @@
 //! From the bytes of operation lines to the status of their history.
 
-ghost use Rattle.std.specs.Prelude.{◌≡◌, ◌≢◌, ◌≤◌, IfSome, IfOk, IfErr, map};
+ghost use Rattle.std.specs.Prelude.{◌≡◌, ◌≤◌, IfSome, IfOk, IfErr, map};
 ghost use Rattle.std.specs.List.{list_all};
 ghost use Rattle.gf_run.specs.RefusedRuns.{IsBetween};
 ghost use Rattle.gf_run.specs.RefusedRuns.{RefusesReading};
@@ -18,19 +18,12 @@ use gf_json::Notation;
 use gf_listing::Versions;
 use gf_ops::{History, Op, OpId};
 use gf_replay::read_replica;
-use gf_run::{StudioError, input};
+use gf_run::{Answer, StudioError, run};
 use gf_site::Replica;
-use gf_streams::{Sink, SinkFault, Source, write_whole};
+use gf_streams::{Sink, Source};
 use gf_versions::MOST_VERSIONS;
 use std::alloc::Global;
 use std::thread::Threads;
-
-/// The text of a status, and whether something waits or differs.
-#[derive(Drop)]
-struct Status {
-    text: Vec<u8>,
-    state: State,
-}
 
 /// Reads operation lines to their end, by 1 to 16 workers, and writes the status of their history.
 /// It has a line for each site with operations, and one for each operation that waits. The lines of
@@ -61,31 +54,14 @@ pub fn status_run<T: Threads + Sync, R: Source, W: Sink>(
     ensures sink { LeavesSink W.Sink (R.left source.old) (IsStatusOf notation) sink.old sink.new
         result }
 {
-    let status = status_of_lines(rt, alloc, source, notation, workers)?;
-    match write_whole(sink, &status.text) {
-        Ok(()) => Ok(status.state),
-        Err(SinkFault) => Err(StudioError::WriteFailed),
-    }
-}
-
-/// The status of the history that the lines of a source denote.
-fn status_of_lines<T: Threads + Sync, R: Source>(
-    rt: &T,
-    alloc: Global,
-    source: &mut R,
-    notation: Notation,
-    workers: u8,
-) -> Result<Status, StudioError>
-    requires { (1 ≤ workers) × (workers ≤ 16) }
-    ensures ok { IfOk result (λ status. IfSome (R.left source.old) (λ bytes.
-        DenotesStatus notation bytes status.text.items status.state)) }
-    ensures source { ReadsInput R.Source source.old source.new result }
-    ensures refused { IfErr result (λ e. IfSome (R.left source.old) (λ bytes.
-        RefusesReading bytes e)) }
-    ensures no_write { IfErr result (λ e. e ≢ StudioError.WriteFailed) }
-{
-    let bytes = input(alloc, source)?;
-    status_of(rt, alloc, bytes, notation, workers)
+    run(
+        alloc,
+        source,
+        sink,
+        |bytes|
+            requires { (1 ≤ workers) × (workers ≤ 16) }
+        { status_of(rt, alloc, bytes, notation, workers) },
+    )
 }
 
 /// The status of the history that these bytes denote.
@@ -95,10 +71,10 @@ fn status_of<T: Threads + Sync>(
     bytes: Vec<u8>,
     notation: Notation,
     workers: u8,
-) -> Result<Status, StudioError>
+) -> Result<Answer<State>, StudioError>
     requires { (1 ≤ workers) × (workers ≤ 16) }
     ensures ok { IfOk result (λ status.
-        DenotesStatus notation bytes.items status.text.items status.state) }
+        DenotesStatus notation bytes.items status.text.items status.value) }
     ensures refused { IfErr result (RefusesReading bytes.items) }
     ensures between { IfErr result IsBetween }
 {
@@ -110,16 +86,16 @@ fn status_of<T: Threads + Sync>(
 }
 
 /// The status of a replica's history.
-fn tell(alloc: Global, replica: &Replica, notation: Notation) -> Result<Status, OutOfMemory>
+fn tell(alloc: Global, replica: &Replica, notation: Notation) -> Result<Answer<State>, OutOfMemory>
     ensures { IfOk result (λ status.
-        TellsStatus notation replica.now.ops replica.now.held status.text.items status.state) }
+        TellsStatus notation replica.now.ops replica.now.held status.text.items status.value) }
 {
     let history = replica.history();
     let waiting = replica.held_ops(alloc)?;
     let objects = object_statuses(alloc, &Versions::of(replica.indexed()))?;
     let text = status_in(alloc, notation, history, &waiting, &objects)?;
     let state = state_of(&waiting, &objects);
-    Ok(Status { text, state })
+    Ok(Answer { text, value: state })
 }
 
 /// The text of a status in this notation.
