@@ -4,8 +4,8 @@ ghost use Rattle.std.specs.Prelude.{◌≡◌};
 ghost use Rattle.gf_import.specs.declared.import_error.ImportError.TheVariants as import_error;
 ghost use Rattle.gf_run.specs.declared.studio_error.StudioError.TheVariants as studio;
 
-use crate::FigureFault;
 use gf_fig_read::FigError;
+use gf_objects::FigureFault;
 use gf_run::StudioError;
 use gf_shape::OutOfMemory;
 use thiserror::Error;
