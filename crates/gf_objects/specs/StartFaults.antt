@@ -1,5 +1,5 @@
 -- Which limit of operations the object of a figure breaks (this project's choice).
-use Rattle.std.specs.Prelude.{ℕ, Bool, ◌&&◌, nat_le, List, length, Option, None, Some}
+use Rattle.std.specs.Prelude.{Bool, ◌&&◌, nat_le, List, length, Option, None, Some}
 use Rattle.std.specs.Prelude.{if◌then◌else◌}
 use Rattle.std.specs.List.{list_all}
 use Rattle.gf_shape.specs.declared.outline.Outline.{Outline}
