@@ -20,12 +20,14 @@ use Rattle.gf_figures.specs.declared.figure.Figure.{Figure}
 use Rattle.gf_figures.specs.Colours.{Table}
 use Rattle.gf_figures.specs.DrawingColour.{figure_colour}
 use Rattle.gf_figures.specs.DrawingState.{DrawingState, IsLawfulDrawing}
-use Rattle.gf_import.specs.declared.faults.FigureFault.{FigureFault}
-use Rattle.gf_import.specs.declared.faults.FigureFault.TheVariants as fault
-use Rattle.gf_import.specs.CreationFaults.{IsFirstFault, figure_fault, form_fault, made, or_fault}
-use Rattle.gf_import.specs.CreationFaults.{points_fault, unless}
-use Rattle.gf_import.specs.Boxes.{is_box, point_at}
-use Rattle.gf_import.specs.Importing.{creation_of, creations_of, form_of, place_of, seen_from}
+use Rattle.gf_objects.specs.declared.figure_fault.FigureFault.{FigureFault}
+use Rattle.gf_objects.specs.declared.figure_fault.FigureFault.TheVariants as fault
+use Rattle.gf_objects.specs.StartFaults.{figure_fault, form_fault}
+use Rattle.gf_import.specs.CreationFaults.{IsFirstFault, made, or_fault}
+use Rattle.gf_objects.specs.StartFaults.{points_fault, unless}
+use Rattle.gf_objects.specs.Boxes.{is_box, point_at}
+use Rattle.gf_objects.specs.Objects.{form_of, place_of, seen_from}
+use Rattle.gf_import.specs.Importing.{creation_of, creations_of}
 use Rattle.gf_import.specs.Imported.{IsImportable}
 
 -- the figure f is a lawful outline of a colour of bytes, and what it becomes breaks no limit

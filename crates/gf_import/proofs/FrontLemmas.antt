@@ -19,7 +19,8 @@ use Rattle.gf_versions.specs.Visible.{form_holds}
 use Rattle.gf_figures.specs.declared.figure.Figure.{Figure}
 use Rattle.gf_figures.specs.Colours.{Table}
 use Rattle.gf_figures.specs.FrontMost.{nearer_at}
-use Rattle.gf_import.specs.Importing.{creation_of, start_of}
+use Rattle.gf_objects.specs.Objects.{start_of}
+use Rattle.gf_import.specs.Importing.{creation_of}
 use Rattle.gf_import.proofs.OrderLemmas.{IsNoHigher}
 
 -- an object that begins with s holds p

@@ -1,13 +1,8 @@
 pub mod AloneLemmas
 pub mod OrderLemmas
-pub mod RingLemmas
-pub mod CornerLemmas
-pub mod OutlineLemmas
 pub mod FrontLemmas
 pub mod WrittenLemmas
 pub mod PictureLemmas
-pub mod SeenLemmas
-pub mod TableLemmas
 pub mod CreatingLemmas
 pub mod CommandLemmas
 pub mod LineLemmas

@@ -16,12 +16,14 @@ use Rattle.gf_figures.specs.DrawingState.{DrawingState}
 use Rattle.gf_fig_read.specs.FigGrammar.{Reads}
 use Rattle.gf_fig_read.proofs.GrammarLemmas.{not_both, one_drawing}
 use Rattle.gf_run.specs.declared.studio_error.StudioError.TheVariants as studio
-use Rattle.gf_import.specs.declared.faults.FigureFault.{FigureFault}
+use Rattle.gf_objects.specs.declared.figure_fault.FigureFault.{FigureFault}
 use Rattle.gf_import.specs.declared.import_error.ImportError.{ImportError}
 use Rattle.gf_import.specs.declared.import_error.ImportError.TheVariants as import_error
-use Rattle.gf_import.specs.CreationFaults.{IsFirstFault, figure_fault, form_fault}
+use Rattle.gf_objects.specs.StartFaults.{figure_fault, form_fault}
+use Rattle.gf_import.specs.CreationFaults.{IsFirstFault}
 use Rattle.gf_import.specs.Imported.{IsImportable}
-use Rattle.gf_import.specs.Importing.{creation_of, form_of, place_of}
+use Rattle.gf_objects.specs.Objects.{form_of, place_of}
+use Rattle.gf_import.specs.Importing.{creation_of}
 use Rattle.gf_import.specs.ImportRun.{RefusesImport}
 
 form_unbroken : (f : Form) → is_form f ≡ true → form_fault f ≡ None

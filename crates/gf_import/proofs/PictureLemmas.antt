@@ -25,12 +25,13 @@ use Rattle.gf_figures.specs.DrawingState.{DrawingState, IsLawfulFigure}
 use Rattle.gf_figures.specs.FrontMost.{front_at, nearer_at}
 use Rattle.gf_figures.proofs.DrawingLaw.{front_figure_colours, lawful_depth}
 use Rattle.gf_drawing.specs.CanonicalDrawing.{PaintsAsFig}
-use Rattle.gf_import.specs.Importing.{creation_of, creations_of, start_of}
+use Rattle.gf_objects.specs.Objects.{start_of}
+use Rattle.gf_import.specs.Importing.{creation_of, creations_of}
 use Rattle.gf_import.specs.Imported.{IsImportable, history_of, with_change}
 use Rattle.gf_import.proofs.AloneLemmas.{first_is_version, first_version, version_is_first}
 use Rattle.gf_import.proofs.FrontLemmas.{FrontOf, one_more}
 use Rattle.gf_import.proofs.OrderLemmas.{not_above}
-use Rattle.gf_import.proofs.OutlineLemmas.{form_holds-outline}
+use Rattle.gf_objects.proofs.OutlineLemmas.{form_holds-outline}
 use Rattle.gf_import.proofs.WrittenLemmas.{IsWritten, written}
 
 module _ (s : ℕ) (table : Table) (p : Point) where

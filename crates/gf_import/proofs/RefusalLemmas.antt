@@ -11,8 +11,8 @@ use Rattle.gf_fig_read.specs.declared.faults.FigError.{FigError}
 use Rattle.gf_fig_read.specs.FaultLines.{BeginsOn, IsFaultLine, front_line}
 use Rattle.gf_fig_read.specs.FigGrammar.{Fails}
 use Rattle.gf_fig_read.proofs.ObjectLemmas.{made_of}
-use Rattle.gf_import.specs.declared.faults.FigureFault.{FigureFault}
-use Rattle.gf_import.specs.declared.faults.CreationError.TheVariants as creation
+use Rattle.gf_objects.specs.declared.figure_fault.FigureFault.{FigureFault}
+use Rattle.gf_import.specs.declared.creation_error.CreationError.TheVariants as creation
 use Rattle.gf_import.specs.CreationFaults.{IsFirstFault}
 use Rattle.gf_import.specs.ImportRun.{HasNoCreations}
 use Rattle.gf_import.proofs.LineLemmas.{object_has_line}

@@ -20,7 +20,8 @@ use Rattle.gf_site.proofs.AuthorLemmas.{authored_in_range, authored_next}
 use Rattle.gf_site.proofs.ValidLemmas.{valid_nil, valid_push}
 use Rattle.gf_figures.specs.declared.figure.Figure.{Figure}
 use Rattle.gf_figures.specs.Colours.{Table}
-use Rattle.gf_import.specs.Importing.{creation_of, start_of}
+use Rattle.gf_objects.specs.Objects.{start_of}
+use Rattle.gf_import.specs.Importing.{creation_of}
 use Rattle.gf_import.specs.Imported.{AuthorsAll, history_of, next, none, with_change}
 use Rattle.gf_import.proofs.AloneLemmas.{Makes}
 

@@ -7,8 +7,8 @@ use Rattle.gf_run.specs.declared.studio_error.StudioError.{StudioError}
 use Rattle.gf_run.specs.declared.studio_error.StudioError.TheVariants as studio
 use Rattle.gf_run.specs.RefusedRuns.{IsOfRun}
 use Rattle.gf_run.specs.RunAnswers.{WritesText}
-use Rattle.gf_import.specs.declared.faults.CreationError.{CreationError}
-use Rattle.gf_import.specs.declared.faults.CreationError.TheVariants as creation
+use Rattle.gf_import.specs.declared.creation_error.CreationError.{CreationError}
+use Rattle.gf_import.specs.declared.creation_error.CreationError.TheVariants as creation
 use Rattle.gf_import.specs.declared.import_error.ImportError.{ImportError}
 use Rattle.gf_import.specs.declared.import_error.ImportError.TheVariants as import_error
 use Rattle.gf_import.specs.CommandLines.{DenotesChanges, command_lines}

@@ -1,23 +1,21 @@
 //! The creations of the figures of a drawing.
 
-ghost use Rattle.std.specs.Prelude.{◌≡◌, ◌≤◌, ℕ, ◌+◌, IfOk, IfErr, IsTrue, OnOk, length};
-ghost use Rattle.std.specs.Prelude.{[], ◌∷◌, ◌++◌};
-ghost use Rattle.std.specs.List.{list_all};
+ghost use Rattle.std.specs.Prelude.{◌≡◌, ℕ, IfOk, IfErr, IsTrue, OnOk, [], ◌∷◌, ◌++◌};
 ghost use Rattle.gf_shape.specs.ShapeLaws.{IsLawful};
-ghost use Rattle.gf_ops.specs.Limits.{is_colour, is_near, is_size};
+ghost use Rattle.gf_ops.specs.Limits.{is_colour};
 ghost use Rattle.gf_ops.specs.OperationOrder.{IsSite};
 ghost use Rattle.gf_figures.specs.DrawingColour.{figure_colour};
 ghost use Rattle.gf_drawing.specs.CanonicalDrawing.{PaintsAsFig};
-ghost use Rattle.gf_import.specs.CreationFaults.{RefusesCreations, form_fault, start_fault};
-ghost use Rattle.gf_import.specs.CreationFaults.{made, points_fault, unless};
+ghost use Rattle.gf_import.specs.CreationFaults.{RefusesCreations};
+ghost use Rattle.gf_import.specs.CreationFaults.{made};
 ghost use Rattle.gf_import.specs.Importing.{creations_of};
 ghost use Rattle.gf_import.specs.Imported.{IsImportable, history_of};
 
-use crate::making::start_of;
-use crate::{CreationError, FigureFault};
+use crate::CreationError;
 use gf_figures::{Drawing, Figure};
-use gf_ops::{Change, Form, Start};
-use gf_shape::{OutOfMemory, Outline, Point};
+use gf_objects::{FigureFault, object_of, start_fault, start_of};
+use gf_ops::Change;
+use gf_shape::{OutOfMemory, Outline};
 use std::alloc::Global;
 
 /// The greatest number of operations of a site.
@@ -41,20 +39,12 @@ pub fn creations(alloc: Global, drawing: &Drawing<Outline>) -> Result<Vec<Change
         match creation(alloc, drawing, figure)? {
             Ok(change) => push_change(&mut changes, change)?,
             Err(fault) => {
-                let object = object_behind(drawing, changes.len());
+                let object = object_of(drawing, changes.len());
                 return Err(CreationError::Figure(object, fault));
             }
         }
     }
     Ok(changes)
-}
-
-/// The number of the FIG object of a figure behind `n` others.
-fn object_behind(drawing: &Drawing<Outline>, n: usize) -> u64
-    requires { n ≤ 10000 }
-    ensures { result ≡ length drawing.now.table + n + 1 }
-{
-    drawing.colours().len() as u64 + n as u64 + 1
 }
 
 /// An empty list with memory for `n` changes.
@@ -89,67 +79,4 @@ fn creation(
         None => Ok(Change::Create(start)),
         Some(fault) => Err(fault),
     })
-}
-
-/// The first limit of operations that the beginning of an object breaks: of its place, then of its
-/// form.
-pub fn start_fault(start: &Start) -> Option<FigureFault>
-    ensures { result ≡ start_fault start.now }
-{
-    if is_near(start.place) {
-        form_fault(&start.form)
-    } else {
-        Some(FigureFault::Place)
-    }
-}
-
-/// The first limit that a form breaks.
-fn form_fault(form: &Form) -> Option<FigureFault>
-    ensures { result ≡ form_fault form.now }
-{
-    match form {
-        Form::Rect(width, height) => {
-            unless(is_size(*width) && is_size(*height), FigureFault::Size)
-        }
-        Form::Circle(radius) => unless(is_size(*radius), FigureFault::Size),
-        Form::Ellipse(rx, ry) => unless(is_size(*rx) && is_size(*ry), FigureFault::Size),
-        Form::Polygon(points) => points_fault(points.as_slice()),
-    }
-}
-
-/// The first limit that the points of a polygon break.
-fn points_fault(points: &[Point]) -> Option<FigureFault>
-    ensures { result ≡ points_fault points.now }
-{
-    if points.len() <= 64 {
-        unless(are_near(points), FigureFault::Point)
-    } else {
-        Some(FigureFault::Points)
-    }
-}
-
-/// A fault, unless a test holds.
-fn unless(holds: bool, fault: FigureFault) -> Option<FigureFault>
-    ensures { result ≡ unless holds fault }
-{
-    if holds { None } else { Some(fault) }
-}
-
-fn is_size(n: u32) -> bool
-    ensures { result ≡ is_size n }
-{
-    1 <= n && n <= 1_000_000
-}
-
-fn are_near(points: &[Point]) -> bool
-    ensures { result ≡ list_all is_near points.now }
-{
-    points.iter().all(|p| is_near(*p))
-}
-
-#[tactic(auto, using(std::proofs::lemmas::Int::ints), unfolding(gf_ops::specs::Limits::is_near))]
-fn is_near(p: Point) -> bool
-    ensures { result ≡ is_near p }
-{
-    -1_000_000 <= p.x && p.x <= 1_000_000 && -1_000_000 <= p.y && p.y <= 1_000_000
 }

@@ -3,29 +3,24 @@
 //! - [`import_run`]: reads a FIG text, and writes a command for each figure of its drawing;
 //!   [`ImportError`] tells why not.
 //! - [`creations`]: a creation for each figure of a drawing; [`CreationError`] tells why there are
-//!   none, and [`FigureFault`] which limit a figure breaks.
-//! - [`start_of`]: what the object of a figure begins with; [`form_of`] and [`place_of`] give its
-//!   parts, and [`start_fault`] tells which limit it breaks.
+//!   none.
 //! - [`the_creations_paint_the_drawing`], [`what_is_imported_paints_the_drawing`]: the laws of the
 //!   history that a site makes of the creations.
 //! - [`what_can_be_imported_is_not_refused`]: the law that a success rules a refusal out.
 #![tactic(auto)]
 
-mod boxes;
 mod creating;
-mod faults;
+mod creation_error;
 mod import_error;
 mod importing;
 mod laws;
-mod making;
 mod run;
 
-pub use creating::{creations, start_fault};
-pub use faults::{CreationError, FigureFault};
+pub use creating::creations;
+pub use creation_error::CreationError;
 pub use import_error::ImportError;
 pub use laws::{
     the_creations_paint_the_drawing, what_can_be_imported_is_not_refused,
     what_is_imported_paints_the_drawing,
 };
-pub use making::{form_of, place_of, start_of};
 pub use run::import_run;

@@ -34,7 +34,7 @@ use Rattle.gf_versions.proofs.LimitLemmas.{version_fits}
 use Rattle.gf_figures.specs.declared.figure.Figure.{Figure}
 use Rattle.gf_figures.specs.Colours.{Table}
 use Rattle.gf_figures.specs.DrawingColour.{figure_colour}
-use Rattle.gf_import.specs.Boxes.{are_opposite, is_at, is_box, point_at}
+use Rattle.gf_objects.specs.Boxes.{are_opposite, is_at, is_box, point_at}
 use Rattle.gf_take.specs.ShownDrawing.{look_at, look_of, shape_become}
 use Rattle.gf_take.specs.Matching.{AreTraced, trace}
 

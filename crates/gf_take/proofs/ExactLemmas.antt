@@ -28,9 +28,9 @@ use Rattle.gf_figures.specs.declared.figure.Figure.{Figure}
 use Rattle.gf_figures.specs.Colours.{Table}
 use Rattle.gf_figures.specs.DrawingColour.{figure_colour, from_front}
 use Rattle.gf_figures.specs.DrawingState.{DrawingState}
-use Rattle.gf_import.specs.Boxes.{are_corners, are_opposite, is_box, least_corner}
-use Rattle.gf_import.specs.Boxes.{point_at}
-use Rattle.gf_import.specs.Importing.{form_of, place_of}
+use Rattle.gf_objects.specs.Boxes.{are_corners, are_opposite, is_box, least_corner}
+use Rattle.gf_objects.specs.Boxes.{point_at}
+use Rattle.gf_objects.specs.Objects.{form_of, place_of}
 use Rattle.gf_take.specs.Matching.{AreShown, AreTraced, IsTraced, trace}
 use Rattle.gf_take.specs.ShownDrawing.{Look, LooksLike, ShowsDrawing, look_at, look_of}
 use Rattle.gf_take.specs.ShownDrawing.{shape_become}

@@ -31,8 +31,8 @@ use Rattle.gf_figures.specs.DrawingColour.{drawing_colour, figure_colour, figure
 use Rattle.gf_figures.specs.DrawingColour.{from_front, front_colour}
 use Rattle.gf_figures.specs.DrawingState.{DrawingState}
 use Rattle.gf_drawing.specs.CanonicalDrawing.{PaintsAsFig}
-use Rattle.gf_import.specs.Importing.{form_of, place_of}
-use Rattle.gf_import.proofs.OutlineLemmas.{form_holds-outline}
+use Rattle.gf_objects.specs.Objects.{form_of, place_of}
+use Rattle.gf_objects.proofs.OutlineLemmas.{form_holds-outline}
 use Rattle.gf_take.specs.ShownDrawing.{CanSwap, IsReordered, Look, ShowsDrawing, look_at, look_of}
 use Rattle.gf_take.specs.ShownDrawing.{TakesOut, behind, first, next, none, shape_become}
 

@@ -16,7 +16,7 @@ use Rattle.gf_versions.specs.Ranking.{form_at}
 use Rattle.gf_figures.specs.declared.figure.Figure.{Figure}
 use Rattle.gf_figures.specs.Colours.{Table}
 use Rattle.gf_figures.specs.DrawingColour.{figure_colour}
-use Rattle.gf_import.specs.Importing.{form_of, place_of}
+use Rattle.gf_objects.specs.Objects.{form_of, place_of}
 use Rattle.gf_take.specs.Matching.{IsTraced}
 use Rattle.gf_take.specs.ShownDrawing.{CanSwap, IsReordered, TakesOut, behind, first, next}
 use Rattle.gf_take.specs.ShownDrawing.{none}

@@ -14,7 +14,7 @@ use Rattle.gf_versions.specs.declared.placed.Placed.{Placed}
 use Rattle.gf_figures.specs.declared.figure.Figure.{Figure}
 use Rattle.gf_figures.specs.Colours.{Table}
 use Rattle.gf_figures.specs.DrawingColour.{figure_colour}
-use Rattle.gf_import.specs.Importing.{form_of, place_of}
+use Rattle.gf_objects.specs.Objects.{form_of, place_of}
 use Rattle.gf_take.specs.ShownDrawing.{CanSwap, IsReordered, TakesOut}
 
 -- what an outline of this colour becomes: its form, its place and the colour

@@ -16,7 +16,7 @@ use Rattle.gf_figures.specs.declared.figure.Figure.{Figure}
 use Rattle.gf_figures.specs.Colours.{Table}
 use Rattle.gf_figures.specs.DrawingColour.{figure_colour, from_front}
 use Rattle.gf_figures.specs.DrawingState.{DrawingState}
-use Rattle.gf_import.specs.Importing.{form_of, place_of}
+use Rattle.gf_objects.specs.Objects.{form_of, place_of}
 
 -- what is seen of an object: its shape at its place, and its colour
 abbrev pub Look : Type 0

@@ -3,10 +3,9 @@
 ghost use Rattle.std.specs.Prelude.{◌≡◌, ◌↔◌, IfOk, IsTrue};
 ghost use Rattle.gf_take.specs.Matching.{BecomeAlike, IsTraced};
 
-use crate::swapping::{colour_of, same_colour};
+use crate::swapping::same_colour;
 use gf_figures::{Drawing, Figure};
-use gf_import::{form_of, place_of};
-use gf_ops::{Form, Points};
+use gf_objects::{colour_of, form_of, place_of, same_form};
 use gf_shape::{OutOfMemory, Outline, Point, Rgb};
 use std::alloc::Global;
 
@@ -41,28 +40,6 @@ fn become_alike(alloc: Global, own: &Outline, other: &Outline) -> Result<bool, O
 
 fn same_place(a: Point, b: Point) -> bool
     ensures { IsTrue result ↔ a ≡ b }
-{
-    a == b
-}
-
-fn same_form(a: &Form, b: &Form) -> bool
-    ensures { IsTrue result ↔ a.now ≡ b.now }
-{
-    match (a, b) {
-        (Form::Rect(width, height), Form::Rect(width_b, height_b)) => {
-            *width == *width_b && *height == *height_b
-        }
-        (Form::Polygon(points), Form::Polygon(points_b)) => same_points(points, points_b),
-        (Form::Circle(radius), Form::Circle(radius_b)) => *radius == *radius_b,
-        (Form::Ellipse(rx, ry), Form::Ellipse(rx_b, ry_b)) => *rx == *rx_b && *ry == *ry_b,
-        (Form::Rect(..), _) | (Form::Polygon(_), _) => false,
-        (Form::Circle(_), _) | (Form::Ellipse(..), _) => false,
-    }
-}
-
-#[tactic(auto, using(gf_ops::proofs::SameLemmas::points_decides))]
-fn same_points(a: &Points, b: &Points) -> bool
-    ensures { IsTrue result ↔ a.now ≡ b.now }
 {
     a == b
 }

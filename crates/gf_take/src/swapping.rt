@@ -1,26 +1,12 @@
 //! Whether two figures may change places in the order without being seen to.
 
 ghost use Rattle.std.specs.Prelude.{◌≡◌, ◌↔◌, IsTrue, All, map};
-ghost use Rattle.gf_figures.specs.DrawingColour.{figure_colour};
 ghost use Rattle.gf_take.specs.Matching.{are_apart, lie_beside};
 ghost use Rattle.gf_take.specs.ShownDrawing.{AreApart, CanSwap};
 
 use gf_figures::{Drawing, Figure};
+use gf_objects::colour_of;
 use gf_shape::{Bounds, Outline, Rgb, Shape};
-
-/// The colour of a figure whose number has none.
-const WHITE: Rgb = Rgb {
-    r: 255,
-    g: 255,
-    b: 255,
-};
-
-/// The colour of a figure of a drawing by its number.
-pub(crate) fn colour_of(drawing: &Drawing<Outline>, figure: &Figure<Outline>) -> Rgb
-    ensures { result ≡ figure_colour drawing.now.table figure.now }
-{
-    drawing.rgb(figure.colour).unwrap_or(WHITE)
-}
 
 pub(crate) fn same_colour(a: Rgb, b: Rgb) -> bool
     ensures { IsTrue result ↔ a ≡ b }

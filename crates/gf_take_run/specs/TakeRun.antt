@@ -22,8 +22,8 @@ use Rattle.gf_fig_read.specs.Objects.{Drawn}
 use Rattle.gf_figures.specs.declared.figure.Figure.{Figure}
 use Rattle.gf_site.specs.declared.faults.AuthorFault.TheVariants as author
 use Rattle.gf_visible.specs.ShownVersions.{HasMoreVisible}
-use Rattle.gf_import.specs.declared.faults.FigureFault.{FigureFault}
-use Rattle.gf_import.specs.CreationFaults.{figure_fault}
+use Rattle.gf_objects.specs.declared.figure_fault.FigureFault.{FigureFault}
+use Rattle.gf_objects.specs.StartFaults.{figure_fault}
 use Rattle.gf_fig_named.specs.Known.{AreCounts, TellsKnown}
 use Rattle.gf_run.specs.declared.studio_error.StudioError.{StudioError}
 use Rattle.gf_run.specs.RefusedRuns.{IsOfRun, RefusesReading}

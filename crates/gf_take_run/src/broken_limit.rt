@@ -1,7 +1,7 @@
 //! A figure that no operation can make.
 
 use gf_fig_faults::Seen;
-use gf_import::FigureFault;
+use gf_objects::FigureFault;
 use std::fmt;
 
 /// A figure that breaks a limit of operations. Its object, counted from 1 with the colours, begins

@@ -1,6 +1,6 @@
 //! The changes by which a site comes to show a drawing.
 
-ghost use Rattle.std.specs.Prelude.{◌≡◌, ◌≤◌, ℕ, ◌+◌, All, IfErr, IfOk, IfSome, length};
+ghost use Rattle.std.specs.Prelude.{◌≡◌, ◌≤◌, All, IfErr, IfOk, IfSome, length};
 ghost use Rattle.gf_fig_read.specs.FaultLines.{BeginsOn};
 ghost use Rattle.gf_fig_named.specs.NamedFigures.{AreNamed};
 ghost use Rattle.gf_fig_read.specs.FigGrammar.{Reads};
@@ -25,9 +25,9 @@ use gf_fig_faults::seen_at;
 use gf_fig_read::object_line;
 use gf_figures::Drawing;
 use gf_groups::{GroupFault, is_made};
-use gf_import::{start_fault, start_of};
 use gf_inspect::versions_with;
 use gf_listing::Versions;
+use gf_objects::{object_of, start_fault, start_of};
 use gf_ops::{Change, ObjectId};
 use gf_shape::{AnyShape, OutOfMemory, Outline};
 use gf_site::{AuthorFault, Site};
@@ -97,7 +97,7 @@ fn broken_at(
     let Some(fault) = start_fault(&start) else {
         return Ok(None);
     };
-    let object = object_at(drawing, index);
+    let object = object_of(drawing, index);
     match object_line(alloc, fig, object)? {
         Some(line) => Ok(Some(BrokenLimit {
             line,
@@ -107,14 +107,6 @@ fn broken_at(
         })),
         None => Ok(None),
     }
-}
-
-/// The number of the FIG object of a figure of this index.
-fn object_at(drawing: &Drawing<Outline>, index: usize) -> u64
-    requires { index ≤ 1000 }
-    ensures { result ≡ length drawing.now.table + index + 1 }
-{
-    drawing.colours().len() as u64 + index as u64 + 1
 }
 
 /// The changes that a site is to make so that it shows a drawing. It shows these versions. Where

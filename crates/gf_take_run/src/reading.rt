@@ -16,7 +16,7 @@ use gf_fig_faults::drawing_faults;
 use gf_fig_named::{Named, read_names};
 use gf_fig_read::read_fig;
 use gf_figures::Drawing;
-use gf_import::{start_fault, start_of};
+use gf_objects::{start_fault, start_of};
 use gf_ops::Clock;
 use gf_replay::read_replica;
 use gf_run::StudioError;

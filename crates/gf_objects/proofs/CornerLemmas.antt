@@ -11,8 +11,8 @@ use Rattle.gf_shape.specs.Area.{Area}
 use Rattle.gf_shape.specs.FigureMeaning.{chain_holds}
 use Rattle.gf_shape.specs.ShapeMeaning.{rect_holds}
 use Rattle.gf_shape.specs.Laws.BoxOutline.{chain_holds-corners_again}
-use Rattle.gf_import.specs.Boxes.{are_between, are_corners, are_opposite, is_at, least_corner}
-use Rattle.gf_import.proofs.RingLemmas.{ring, ring_turned, ring_back}
+use Rattle.gf_objects.specs.Boxes.{are_between, are_corners, are_opposite, is_at, least_corner}
+use Rattle.gf_objects.proofs.RingLemmas.{ring, ring_turned, ring_back}
 
 -- a point of these coordinates
 abbrev at : ℤ → ℤ → Point

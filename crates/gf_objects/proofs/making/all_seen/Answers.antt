@@ -1,7 +1,7 @@
 use Rattle.std.proofs.Common.{pos}
 use Rattle.gf_plane.specs.declared.point.Point.{Point}
-use Rattle.gf_import.proofs.SeenLemmas.{seen_more, seen_all}
-use Rattle.gf_import.proofs.making.all_seen.Goals as goal
+use Rattle.gf_objects.proofs.SeenLemmas.{seen_more, seen_all}
+use Rattle.gf_objects.proofs.making.all_seen.Goals as goal
 
 abbrev none : Point
 none = record { x = pos 0; y = pos 0 }

@@ -1,13 +1,14 @@
-//! What a figure becomes.
+//! The object that a figure becomes.
 
-ghost use Rattle.std.specs.Prelude.{◌≡◌, ◌-ℤ◌, ◌≤◌, IfOk, OnOk, IsTrue, All, length, map};
+ghost use Rattle.std.specs.Prelude.{◌≡◌, ◌-ℤ◌, ◌≤◌, ◌+◌, IfOk, OnOk, IsTrue, All};
+ghost use Rattle.std.specs.Prelude.{length, map};
 ghost use Rattle.gf_shape.specs.declared.outline.Outline.TheVariants as outline;
 ghost use Rattle.gf_plane.specs.Moving.{minus};
 ghost use Rattle.gf_plane.specs.Reach.{is_reached, is_within_reach};
 ghost use Rattle.gf_shape.specs.ShapeLaws.{IsLawful};
 ghost use Rattle.gf_ops.specs.Limits.{is_colour};
 ghost use Rattle.gf_figures.specs.DrawingColour.{figure_colour};
-ghost use Rattle.gf_import.specs.Importing.{form_of, place_of, seen_from, start_of};
+ghost use Rattle.gf_objects.specs.Objects.{form_of, place_of, seen_from, start_of};
 
 use crate::boxes::{box_form, is_box, least_corner, point_at};
 use gf_figures::{Drawing, Figure};
@@ -46,11 +47,19 @@ pub fn start_of(
 }
 
 /// The colour of a figure by its number.
-fn colour_of(drawing: &Drawing<Outline>, figure: &Figure<Outline>) -> Rgb
+pub fn colour_of(drawing: &Drawing<Outline>, figure: &Figure<Outline>) -> Rgb
     ensures colour { result ≡ figure_colour drawing.now.table figure.now }
     ensures in_range { IsTrue (is_colour result) }
 {
     drawing.rgb(figure.colour).unwrap_or(WHITE)
+}
+
+/// The number of the FIG object of a figure of this index, counted from 1 with the colours.
+pub fn object_of(drawing: &Drawing<Outline>, index: usize) -> u64
+    requires { index ≤ 10000 }
+    ensures { result ≡ length drawing.now.table + index + 1 }
+{
+    drawing.colours().len() as u64 + index as u64 + 1
 }
 
 /// The place of what an outline becomes.

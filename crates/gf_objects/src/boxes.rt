@@ -1,8 +1,8 @@
 //! Which chains are boxes, and which boxes they are.
 
 ghost use Rattle.std.specs.Prelude.{◌≡◌};
-ghost use Rattle.gf_import.specs.Boxes.{are_between, are_corners, are_opposite, box_form, is_at};
-ghost use Rattle.gf_import.specs.Boxes.{is_box, least_corner, point_at};
+ghost use Rattle.gf_objects.specs.Boxes.{are_between, are_corners, are_opposite, box_form, is_at};
+ghost use Rattle.gf_objects.specs.Boxes.{is_box, least_corner, point_at};
 
 use gf_ops::Form;
 use gf_shape::{Chain, Point};

@@ -16,9 +16,9 @@ use Rattle.gf_shape.specs.ShapeMoves.{points_moved}
 use Rattle.gf_shape.specs.Laws.Moved.{plus-minus, polygon_holds-moved}
 use Rattle.gf_shape.specs.Laws.Parity.{polygon_holds_as_chain}
 use Rattle.gf_versions.specs.Visible.{form_holds}
-use Rattle.gf_import.specs.Boxes.{are_corners, is_box, point_at}
-use Rattle.gf_import.specs.Importing.{form_of, place_of, seen_from}
-use Rattle.gf_import.proofs.CornerLemmas.{corners_hold}
+use Rattle.gf_objects.specs.Boxes.{are_corners, is_box, point_at}
+use Rattle.gf_objects.specs.Objects.{form_of, place_of, seen_from}
+use Rattle.gf_objects.proofs.CornerLemmas.{corners_hold}
 
 -- a list whose last element is z is its front with z behind it
 last_again : {X : Type 0} (x : X) (xs : List X) (z : X) → slice_get (x ∷ xs) (length xs) ≡ Some z

@@ -1,25 +1,8 @@
-//! Why a figure becomes no object.
+//! Why a drawing has no creations.
 
+use gf_objects::FigureFault;
 use gf_shape::OutOfMemory;
 use thiserror::Error;
-
-/// Which limit of operations a figure breaks, in the order of the checks.
-#[derive(Clone, Copy, Debug, PartialEq, Eq, Error)]
-pub enum FigureFault {
-    /// The least corner of a box, the first point of a polygon or the centre has a coordinate
-    /// beyond ±1,000,000.
-    #[error("Place")]
-    Place,
-    /// A side or a radius is beyond 1,000,000.
-    #[error("Size")]
-    Size,
-    /// The polygon has more than 64 points.
-    #[error("Points")]
-    Points,
-    /// A point of the polygon has a difference from the first one beyond ±1,000,000.
-    #[error("Point")]
-    Point,
-}
 
 /// Why a drawing has no creations.
 #[derive(Clone, Copy, Debug, PartialEq, Eq, Error)]
@@ -37,7 +20,7 @@ pub enum CreationError {
 
 impl From<OutOfMemory> for CreationError {
     ghost use Rattle.std.specs.Prelude.{◌≡◌};
-    ghost use Rattle.gf_import.specs.declared.faults.CreationError.{CreationError};
+    ghost use Rattle.gf_import.specs.declared.creation_error.CreationError.{CreationError};
 
     ghost from_gives = { λ _ e. e ≡ CreationError.OutOfMemory };
 

@@ -1,0 +1,5 @@
+pub mod RingLemmas
+pub mod CornerLemmas
+pub mod OutlineLemmas
+pub mod SeenLemmas
+pub mod TableLemmas
