@@ -11,7 +11,7 @@ use crate::reports::push_reports;
 use crate::scripts::read_scripts;
 use gf_fig_write::fig_bytes;
 use gf_gate::Gate;
-use gf_run::{Answer, StudioError};
+use gf_run::StudioError;
 use gf_session::{Done, SessionError, run_session};
 use gf_shape::OutOfMemory;
 use gf_site::Site;
@@ -28,15 +28,15 @@ pub(crate) fn play<T: Threads + Wait + Sync, G: Gate + Sync>(
     bytes: Vec<u8>,
     sites: u8,
     gate: &G,
-) -> Result<Answer<()>, SessionRunError>
+) -> Result<Vec<u8>, SessionRunError>
     requires { IsSiteCount sites }
-    ensures ok { IfOk result (λ told. TellsSession sites bytes.items told.text.items) }
+    ensures ok { IfOk result (λ text. TellsSession sites bytes.items text.items) }
     ensures err { IfErr result (RefusesPlaying sites bytes.items) }
 {
     let scripts = read_scripts(alloc, bytes, sites)?;
     let dones = run(rt, alloc, scripts, gate)?;
     match tell(alloc, dones.as_slice(), &dones[0].site) {
-        Ok(text) => Ok(Answer { text, value: () }),
+        Ok(text) => Ok(text),
         Err(fault) => Err(SessionRunError::Run(fault)),
     }
 }

@@ -3,9 +3,8 @@
 ghost use Rattle.std.specs.Prelude.{◌≡◌};
 ghost use Rattle.gf_session_run.specs.declared.session_run_error.SessionRunError.TheVariants as run;
 ghost use Rattle.gf_session_run.specs.ErrorTexts.{error_text};
-ghost use Rattle.gf_session_run.specs.SessionRun.{of_session};
 
-use gf_run::{RunError, StudioError};
+use gf_run::StudioError;
 use gf_session::SessionError;
 use std::fmt;
 
@@ -45,13 +44,5 @@ impl From<SessionError> for SessionRunError {
 
     fn from(fault: SessionError) -> SessionRunError {
         SessionRunError::Session(fault)
-    }
-}
-
-impl RunError for SessionRunError {
-    ghost shared = { of_session };
-
-    fn of_run(fault: StudioError) -> SessionRunError {
-        SessionRunError::Run(fault)
     }
 }
