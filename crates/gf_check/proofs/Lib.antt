@@ -4,3 +4,4 @@ pub mod LeavingLemmas
 pub mod TellingLemmas
 pub mod ReadLemmas
 pub mod CheckingLemmas
+pub mod RunLemmas

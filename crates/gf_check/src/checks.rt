@@ -1,6 +1,6 @@
 //! From the bytes of operation lines to all of their faults.
 
-ghost use Rattle.std.specs.Prelude.{◌≢◌, IfSome, IfOk, IfErr, List, ℕ, Option};
+ghost use Rattle.std.specs.Prelude.{◌≡◌, IfSome, IfOk, IfErr, List, ℕ, Option};
 ghost use Rattle.gf_ops.specs.OperationOrder.{IsSite};
 ghost use Rattle.gf_run.specs.RefusedRuns.{IsOfRun};
 ghost use Rattle.gf_run.specs.RunAnswers.{LeavesSink, ReadsInput};
@@ -9,8 +9,8 @@ ghost use Rattle.gf_check.specs.CheckRun.{Checks, WritesCheck};
 
 use crate::faults_of;
 use gf_base::OutOfMemory;
-use gf_run::{StudioError, input};
-use gf_streams::{Sink, SinkFault, Source, write_whole};
+use gf_run::{Answer, StudioError, run};
+use gf_streams::{Sink, Source};
 use std::alloc::Global;
 
 /// What a check found.
@@ -48,11 +48,14 @@ pub fn check_run<R: Source, W: Sink>(
     ensures sink { LeavesSink W.Sink (R.left source.old) (AnswersText editor) sink.old sink.new
         result }
 {
-    let text = told_of_lines(alloc, source, editor)?;
-    match write_whole(sink, &text) {
-        Ok(()) => Ok(verdict_of(&text)),
-        Err(SinkFault) => Err(StudioError::WriteFailed),
-    }
+    run(
+        alloc,
+        source,
+        sink,
+        |bytes|
+            requires { IfSome editor IsSite }
+        { check(alloc, bytes, editor) },
+    )
 }
 
 /// Whether a text tells a fault.
@@ -67,22 +70,18 @@ fn verdict_of(text: &[u8]) -> Verdict
     }
 }
 
-/// The text that tells all faults of the lines of a source.
-fn told_of_lines<R: Source>(
-    alloc: Global,
-    source: &mut R,
-    editor: Option<u8>,
-) -> Result<Vec<u8>, StudioError>
+/// The text that tells all faults of these bytes, and whether there are any.
+fn check(alloc: Global, bytes: Vec<u8>, editor: Option<u8>) -> Result<Answer<Verdict>, StudioError>
     requires { IfSome editor IsSite }
-    ensures ok { IfOk result (λ text. IfSome (R.left source.old) (λ bytes.
-        AnswersText editor bytes text.items)) }
-    ensures source { ReadsInput R.Source source.old source.new result }
-    ensures refused { IfErr result IsOfRun }
-    ensures no_write { IfErr result (λ e. e ≢ StudioError.WriteFailed) }
+    ensures ok { IfOk result (λ told. Checks editor bytes.items told.value told.text.items) }
+    ensures text { IfOk result (λ told. AnswersText editor bytes.items told.text.items) }
+    ensures err { IfErr result (λ e. e ≡ StudioError.OutOfMemory) }
 {
-    let bytes = input(alloc, source)?;
     match faults_of(alloc, bytes, editor) {
-        Ok(text) => Ok(text),
+        Ok(text) => {
+            let value = verdict_of(&text);
+            Ok(Answer { text, value })
+        }
         Err(OutOfMemory) => Err(StudioError::OutOfMemory),
     }
 }

@@ -1,6 +1,7 @@
 -- What becomes of what was read: the lines that are written, or the refusal.
-use Rattle.std.specs.Prelude.{Some, None, Ok, Err, map, Option, IfErr, IfOk, IfSome, Result}
-use Rattle.std.proofs.Common.{◌≡◌, ℕ, List, [], sym, ap, subst, ◌∙◌}
+use Rattle.std.specs.Prelude.{◌⊎◌, Ok, Err, None, Some, map, Option, IfErr, IfOk, IfSome, IsSomeAnd}
+use Rattle.std.specs.Prelude.{Result, Vec}
+use Rattle.std.proofs.Common.{ℕ, List, [], sym, ap, subst, ◌∙◌, Global, inl, inr}
 use Rattle.std.proofs.lemmas.List.{append-nil}
 use Rattle.gf_streams.specs.TextLines.{numbered_lines}
 use Rattle.gf_ops.specs.declared.op.Op.{Op}
@@ -13,14 +14,17 @@ use Rattle.gf_run.specs.declared.studio_error.StudioError.TheVariants as studio
 use Rattle.gf_edit.specs.declared.edit_command.EditCommand.{EditCommand}
 use Rattle.gf_edit.specs.declared.edit_error.EditError.{EditError}
 use Rattle.gf_edit.specs.declared.edit_error.EditError.TheVariants as edit
-use Rattle.gf_edit.specs.declared.edited.Edited.{Edited}
+use Rattle.gf_run.specs.declared.answering.Answer.{Answer}
+use Rattle.gf_run.specs.Answers.{Refuses}
+use Rattle.gf_run.specs.RefusedRuns.{IsOfRun}
+use Rattle.gf_edit.specs.declared.made.Made.{Made}
 use Rattle.gf_edit.specs.declared.numbered.Numbered.{Numbered}
 use Rattle.gf_edit.specs.declared.reading.ReadLines.{ReadLines}
 use Rattle.gf_edit.specs.Making.{HasRefused, Makes}
 use Rattle.gf_edit.specs.RefusedCommands.{KeepsNone, RefusesFor}
 use Rattle.gf_edit.specs.MakingSteps.{HasPassed, RefusesMaking}
 use Rattle.gf_edit.specs.EditedText.{AreEntriesOf, AreDelivered, entry_at, ops_in}
-use Rattle.gf_edit.specs.EditRun.{Edits, HasBlocking, RefusesEdit, HasRefusedCommand}
+use Rattle.gf_edit.specs.EditRun.{Edits, HasBlocking, RefusesEdit, HasRefusedCommand, of_edit}
 use Rattle.gf_edit.specs.EntrySteps.{HasReadEntries, HoldsBlocking, IsUnblocked, RefusesWaiting}
 use Rattle.gf_edit.proofs.BlockingLemmas.{first_blocks, none_blocks, waiting_taken}
 use Rattle.gf_edit.proofs.CleanLemmas.{op_clean}
@@ -40,8 +44,8 @@ module _ (s : ℕ) (bytes : List ℕ) (r : ReadLines) (read : HasReadEntries s b
   }
 
   -- the text has the lines of what the commands make
-  pub edited : IsUnblocked (at_site s r.replica) → (y : SiteState) (e : Edited)
-      → HasPassed s r.replica.ops r.commands.items y e → Edits s bytes e.text.items e.made
+  pub edited : IsUnblocked (at_site s r.replica) → (y : SiteState) (e : Answer (Option Made))
+      → HasPassed s r.replica.ops r.commands.items y e → Edits s bytes e.text.items e.value
   edited none y e p = record {
     new = p.new;
     denoted = record {
@@ -120,20 +124,47 @@ module _ (s : ℕ) (bytes : List ℕ) (r : ReadLines) (read : HasReadEntries s b
 
 -- ---- the run
 
-pub run_refuses : {X : Type 0} (s : ℕ) (left : Option (List ℕ)) (items : List ℕ)
-    (r : Result X EditError) → IfSome left (λ all. items ≡ all) → IfErr r (RefusesEdit s items)
-    → IfErr r (λ e. IfSome left (λ bytes. RefusesEdit s bytes e))
-run_refuses s (Some bytes) items (Err e) is f = subst (λ b. RefusesEdit s b e) is f
-run_refuses s None items (Err e) is f = tt
-run_refuses s left items (Ok x) is f = tt
+-- what may refuse any run may refuse an edit
+of_any_run : (s : ℕ) (bytes : List ℕ) (e : EditError) → IsSomeAnd (of_edit e) IsOfRun
+    → RefusesEdit s bytes e
+of_any_run s bytes (edit.Run studio.ReadFailed) r = tt
+of_any_run s bytes (edit.Run studio.TooLong) r = tt
+of_any_run s bytes (edit.Run studio.OutOfMemory) r = tt
+of_any_run s bytes (edit.Run studio.WriteFailed) r = tt
+of_any_run s bytes (edit.Run (studio.Line m why)) r = absurd r
+of_any_run s bytes (edit.Run (studio.Dropped id fault)) r = absurd r
+of_any_run s bytes (edit.Run (studio.Fig x)) r = absurd r
+of_any_run s bytes (edit.Run (studio.Compile x)) r = absurd r
+of_any_run s bytes (edit.Run (studio.NoObject o)) r = absurd r
+of_any_run s bytes (edit.Waits i j) r = absurd r
+of_any_run s bytes (edit.Refused n why) r = absurd r
+of_any_run s bytes (edit.NoVersion n) r = absurd r
+
+-- Gives relates bytes to what they make, and refuses them as an edit is refused
+module _ (Gives : Vec ℕ Global → Result (Answer (Option Made)) EditError → Type 0) (s : ℕ)
+    (tells : (given : Vec ℕ Global) (e : EditError) → Gives given (Err e)
+    → RefusesEdit s given.items e) where
+  refuses_left : (left : Option (List ℕ)) (e : EditError)
+      → Refuses Gives left e ⊎ IsSomeAnd (of_edit e) IsOfRun
+      → IfSome left (λ bytes. RefusesEdit s bytes e)
+  refuses_left None e r = tt
+  refuses_left (Some bytes) e (inl r) = subst (λ b. RefusesEdit s b e) r.bytes_are
+      (tells r.given e r.gives)
+  refuses_left (Some bytes) e (inr r) = of_any_run s bytes e r
+
+  pub run_refuses : {X : Type 0} (left : Option (List ℕ)) (r : Result X EditError)
+      → IfErr r (λ e. Refuses Gives left e ⊎ IsSomeAnd (of_edit e) IsOfRun)
+      → IfErr r (λ e. IfSome left (λ bytes. RefusesEdit s bytes e))
+  run_refuses left (Ok x) f = tt
+  run_refuses left (Err e) f = refuses_left left e f
 
 -- ---- both answers of making
 
 pub edited_ok : (s : ℕ) (r : ReadLines) → AreHeld r.replica.held
-    → IsUnblocked (at_site s r.replica) → (y : SiteState) (m : Result Edited EditError) →
+    → IsUnblocked (at_site s r.replica) → (y : SiteState) (m : Result (Answer (Option Made)) EditError) →
     IfOk m (HasPassed s r.replica.ops r.commands.items y)
     → IfOk m (λ e. (bytes : List ℕ) → HasReadEntries s bytes [] r
-    → Edits s bytes e.text.items e.made)
+    → Edits s bytes e.text.items e.value)
 edited_ok s r held none y (Ok e) p = λ bytes read. edited s bytes r read held none y e p
 edited_ok s r held none y (Err e) p = tt
 

@@ -1,5 +1,5 @@
 -- How what was made grows by a command, and what a refused command says of them all.
-use Rattle.std.specs.Prelude.{Some, None, Ok}
+use Rattle.std.specs.Prelude.{Some, None, Ok, Option}
 use Rattle.std.proofs.Common.{◌≡◌, ℕ, List, [], ◌∷◌, ◌++◌, refl, sym, ap, subst, ◌∙◌, append_assoc}
 use Rattle.std.proofs.Common.{inl, inr}
 use Rattle.std.proofs.lemmas.List.Elements.{Contains-append_cases, Contains-push_cases}
@@ -24,7 +24,8 @@ use Rattle.gf_edit.specs.declared.edit_command.EditCommand.TheVariants.{Author, 
 use Rattle.gf_edit.specs.declared.edit_command.EditCommand.TheVariants.{Keep as KeepOf}
 use Rattle.gf_edit.specs.declared.edit_error.EditError.{EditError}
 use Rattle.gf_edit.specs.declared.edit_error.EditError.TheVariants as edit
-use Rattle.gf_edit.specs.declared.edited.Edited.{Edited}
+use Rattle.gf_run.specs.declared.answering.Answer.{Answer}
+use Rattle.gf_edit.specs.declared.made.Made.{Made}
 use Rattle.gf_edit.specs.declared.numbered.Numbered.{Numbered}
 use Rattle.gf_edit.specs.MadeOperations.{last_id, made_of, made_until}
 use Rattle.gf_edit.specs.Making.{HasRefused, author, await, keep, none, written_line, written_lines}
@@ -54,8 +55,8 @@ written_push ops a = flat_map-append written_line ops (a ∷ []) ∙ ap (λ t. w
     (append-nil (written_line a))
 
 -- before the first command nothing was made
-pub passed_none : (s : ℕ) (h : List Op) (x : SiteState) (e : Edited) → x.number ≡ s → x.ops ≡ h
-    → e.text.items ≡ [] → e.made ≡ None → HasPassed s h [] x e
+pub passed_none : (s : ℕ) (h : List Op) (x : SiteState) (e : Answer (Option Made)) → x.number ≡ s → x.ops ≡ h
+    → e.text.items ≡ [] → e.value ≡ None → HasPassed s h [] x e
 passed_none s h x e number ops is told = record {
   new = [];
   makes = none;
@@ -66,9 +67,9 @@ passed_none s h x e number ops is told = record {
   reads = λ a i. absurd (not_Contains-nil a i);
 }
 
-module _ (s : ℕ) (h : List Op) (done : List Numbered) (n : ℕ) (x : SiteState) (e : Edited)
+module _ (s : ℕ) (h : List Op) (done : List Numbered) (n : ℕ) (x : SiteState) (e : Answer (Option Made))
     (has : HasPassed s h done x e) where
-  made : (c : Change) (y : SiteState) (f : Edited) → WritesOp c x y e f
+  made : (c : Change) (y : SiteState) (f : Answer (Option Made)) → WritesOp c x y e f
       → HasPassed s h (done ++ record { line = n; command = Author c } ∷ []) y f
   made c y f w =
       let o = authored s (h ++ has.new) c in
@@ -96,7 +97,7 @@ module _ (s : ℕ) (h : List Op) (done : List Numbered) (n : ℕ) (x : SiteState
         ];
       }
 
-  kept : (k : Keep) (y : SiteState) (f : Edited) → WritesKeep k x y e f
+  kept : (k : Keep) (y : SiteState) (f : Answer (Option Made)) → WritesKeep k x y e f
       → HasPassed s h (done ++ record { line = n; command = KeepOf k } ∷ []) y f
   kept k y f w =
       let ops = w.writes.ops in
@@ -118,7 +119,7 @@ module _ (s : ℕ) (h : List Op) (done : List Numbered) (n : ℕ) (x : SiteState
       }
 
   -- one command more is passed
-  pub passed_more : (c : EditCommand) (y : SiteState) (f : Edited) → Passes c x y e f
+  pub passed_more : (c : EditCommand) (y : SiteState) (f : Answer (Option Made)) → Passes c x y e f
       → HasPassed s h (done ++ record { line = n; command = c } ∷ []) y f
   passed_more (Author c) y f w = made c y f w
   passed_more (KeepOf k) y f w = kept k y f w
@@ -128,8 +129,8 @@ module _ (s : ℕ) (h : List Op) (done : List Numbered) (n : ℕ) (x : SiteState
         (subst (λ m. AwaitAnswer m x.ops [] i None) has.number w.0));
     ops = ap (λ (z : SiteState). z.ops) w.1 ∙ has.ops;
     number = ap (λ (z : SiteState). z.number) w.1 ∙ has.number;
-    is = ap (λ (k : Edited). k.text.items) w.2 ∙ has.is;
-    told = ap (λ (k : Edited). k.made) w.2 ∙ has.told;
+    is = ap (λ (k : Answer (Option Made)). k.text.items) w.2 ∙ has.is;
+    told = ap (λ (k : Answer (Option Made)). k.value) w.2 ∙ has.told;
     reads = has.reads;
   }
 

@@ -14,7 +14,7 @@ use Rattle.gf_ops.specs.declared.change.Change.{Change}
 use Rattle.gf_ops.specs.Accepted.{IsAccepted}
 use Rattle.gf_ops.specs.Limits.{IsInRange}
 use Rattle.gf_site.specs.SiteState.{SiteState, authored}
-use Rattle.gf_edit.specs.declared.edited.Edited.{Edited}
+use Rattle.gf_run.specs.declared.answering.Answer.{Answer}
 use Rattle.gf_edit.specs.declared.made.Made.{Made}
 use Rattle.gf_edit.specs.MadeOperations.{made_until}
 use Rattle.gf_edit.specs.Making.{written_line, written_lines}
@@ -26,7 +26,7 @@ told_push : (m : Option Made) (ops : List Op) (a : Op)
 told_push m [] a = refl
 told_push m (x ∷ ops) a = told_push (Some (made_until m x.id)) ops a
 
-pub wrote_none : (x : SiteState) (e : Edited) → WritesEach [] x x e e
+pub wrote_none : (x : SiteState) (e : Answer (Option Made)) → WritesEach [] x x e e
 wrote_none x e = record {
   ops = [];
   makes = each_none;
@@ -37,8 +37,8 @@ wrote_none x e = record {
   reads = λ a i. absurd (not_Contains-nil a i);
 }
 
-module _ (cs : List Change) (x y : SiteState) (d e : Edited) (w : WritesEach cs x y d e) where
-  pub wrote_more : (c : Change) (z : SiteState) (f : Edited) → WritesOp c y z e f
+module _ (cs : List Change) (x y : SiteState) (d e : Answer (Option Made)) (w : WritesEach cs x y d e) where
+  pub wrote_more : (c : Change) (z : SiteState) (f : Answer (Option Made)) → WritesOp c y z e f
       → WritesEach (cs ++ c ∷ []) x z d f
   wrote_more c z f t =
       let o = authored x.number (x.ops ++ w.ops) c in
@@ -58,8 +58,8 @@ module _ (cs : List Change) (x y : SiteState) (d e : Edited) (w : WritesEach cs 
             ∙ sym (flat_map-append written_line w.ops (o ∷ []) ∙ ap (λ l. written_lines w.ops ++ l)
             (append-nil (written_line o))))));
         told = t.told ∙ (ap (λ m. Some (made_until m t.op.id)) w.told
-            ∙ (ap (λ (b : Op). Some (made_until (told_after d.made w.ops) b.id)) a
-            ∙ sym (told_push d.made w.ops o)));
+            ∙ (ap (λ (b : Op). Some (made_until (told_after d.value w.ops) b.id)) a
+            ∙ sym (told_push d.value w.ops o)));
         reads = λ b i. elim (Contains-push_cases w.ops o b i) [
           | inl j ↦ w.reads b j
           | inr q ↦ subst (λ (k : Op). denoted (op_text k) ≡ Ok k) (a ∙ q) t.reads

@@ -2,11 +2,12 @@
 
 ghost use Rattle.std.specs.Prelude.{◌≡◌};
 ghost use Rattle.gf_edit.specs.declared.edit_error.EditError.TheVariants as edit;
+ghost use Rattle.gf_edit.specs.EditRun.{of_edit};
 ghost use Rattle.gf_run.specs.Refusals.{of_reading};
 
 use gf_ops::OpId;
 use gf_replay::ReadingError;
-use gf_run::StudioError;
+use gf_run::{RunError, StudioError};
 use gf_site::Cause;
 use thiserror::Error;
 
@@ -54,5 +55,13 @@ impl From<ReadingError> for EditError {
 
     fn from(fault: ReadingError) -> EditError {
         EditError::Run(StudioError::from(fault))
+    }
+}
+
+impl RunError for EditError {
+    ghost shared = { of_edit };
+
+    fn of_run(fault: StudioError) -> EditError {
+        EditError::Run(fault)
     }
 }

@@ -6,18 +6,22 @@ ghost use Rattle.gf_run.specs.RefusedRuns.{IsBetween};
 ghost use Rattle.gf_edit.specs.EditRun.{Edits, RefusesEdit, of_edit};
 ghost use Rattle.gf_edit.specs.EntrySteps.{HasReadEntries};
 
-use crate::EditError;
-use crate::edited::Edited;
 use crate::making::make_all;
 use crate::reading::{ReadLines, read_lines};
 use crate::waiting::check_waiting;
+use crate::{EditError, Made};
+use gf_run::Answer;
 use gf_site::Site;
 use std::alloc::Global;
 
 /// The lines of the operations that the commands of these bytes make.
-pub(crate) fn edit(alloc: Global, bytes: Vec<u8>, editor: u8) -> Result<Edited, EditError>
+pub(crate) fn edit(
+    alloc: Global,
+    bytes: Vec<u8>,
+    editor: u8,
+) -> Result<Answer<Option<Made>>, EditError>
     requires { IsSite editor }
-    ensures ok { IfOk result (λ edited. Edits editor bytes.items edited.text.items edited.made) }
+    ensures ok { IfOk result (λ edited. Edits editor bytes.items edited.text.items edited.value) }
     ensures refused { IfErr result (RefusesEdit editor bytes.items) }
     ensures between { IfErr result (λ e. IfSome (of_edit e) IsBetween) }
 {
@@ -27,10 +31,10 @@ pub(crate) fn edit(alloc: Global, bytes: Vec<u8>, editor: u8) -> Result<Edited, 
 
 /// The lines of the operations that the site of this number makes of these commands, where nothing
 /// that was read blocks it.
-fn make(alloc: Global, read: ReadLines, editor: u8) -> Result<Edited, EditError>
+fn make(alloc: Global, read: ReadLines, editor: u8) -> Result<Answer<Option<Made>>, EditError>
     requires { IsSite editor }
     ensures ok { IfOk result (λ edited. (bytes : List ℕ) → HasReadEntries editor bytes [] read
-        → Edits editor bytes edited.text.items edited.made) }
+        → Edits editor bytes edited.text.items edited.value) }
     ensures refused { IfErr result (λ e. (bytes : List ℕ) → HasReadEntries editor bytes [] read
         → RefusesEdit editor bytes e) }
     ensures between { IfErr result (λ e. IfSome (of_edit e) IsBetween) }

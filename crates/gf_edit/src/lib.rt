@@ -14,7 +14,6 @@
 
 mod edit_command;
 mod edit_error;
-mod edited;
 mod editing;
 mod entries;
 mod laws;

@@ -12,14 +12,13 @@ ghost use Rattle.gf_edit.specs.MakingSteps.{HasPassed, Passes, RefusesCommand, R
 ghost use Rattle.gf_edit.specs.MakingSteps.{RefusesEach, WritesEach, WritesKeep, WritesOp};
 ghost use Rattle.gf_edit.specs.MakingSteps.{of_author, of_keep};
 
-use crate::edited::Edited;
 use crate::made::until;
-use crate::{EditCommand, EditError, Numbered};
+use crate::{EditCommand, EditError, Made, Numbered};
 use gf_base::OutOfMemory;
 use gf_json::op_line;
 use gf_keep::{Keep, KeepFault, keeping};
 use gf_ops::{Change, History, Op, OpId};
-use gf_run::StudioError;
+use gf_run::{Answer, StudioError};
 use gf_site::{AuthorFault, Cause, Site};
 use std::alloc::Global;
 
@@ -28,13 +27,13 @@ pub(crate) fn make_all(
     alloc: Global,
     site: &mut Site,
     commands: Vec<Numbered>,
-) -> Result<Edited, EditError>
+) -> Result<Answer<Option<Made>>, EditError>
     ensures ok { IfOk result (HasPassed site.old.number site.old.ops commands.items site.new) }
     ensures err { IfErr result (RefusesMaking site.old.number site.old.ops commands.items) }
 {
-    let mut edited = Edited {
+    let mut edited = Answer {
         text: Vec::new(alloc),
-        made: None,
+        value: None,
     };
     for numbered in commands {
         pass(alloc, site, &mut edited, numbered.line, numbered.command)?;
@@ -47,7 +46,7 @@ pub(crate) fn make_all(
 fn pass(
     alloc: Global,
     site: &mut Site,
-    edited: &mut Edited,
+    edited: &mut Answer<Option<Made>>,
     number: u64,
     command: EditCommand,
 ) -> Result<(), EditError>
@@ -68,7 +67,7 @@ fn pass(
 fn keep_versions(
     alloc: Global,
     site: &mut Site,
-    edited: &mut Edited,
+    edited: &mut Answer<Option<Made>>,
     number: u64,
     keep: &Keep,
 ) -> Result<(), EditError>
@@ -96,7 +95,7 @@ fn keep_refusal(number: u64, fault: KeepFault) -> EditError
 fn author_each(
     alloc: Global,
     site: &mut Site,
-    edited: &mut Edited,
+    edited: &mut Answer<Option<Made>>,
     number: u64,
     changes: Vec<Change>,
 ) -> Result<(), EditError>
@@ -112,7 +111,7 @@ fn author_each(
 fn author(
     alloc: Global,
     site: &mut Site,
-    edited: &mut Edited,
+    edited: &mut Answer<Option<Made>>,
     number: u64,
     change: Change,
 ) -> Result<(), EditError>
@@ -122,7 +121,7 @@ fn author(
     match site.author(change) {
         Ok(op) => match push_line(alloc, &mut edited.text, &op) {
             Ok(()) => {
-                edited.made = Some(until(edited.made, op.id));
+                edited.value = Some(until(edited.value, op.id));
                 Ok(())
             }
             Err(OutOfMemory) => Err(EditError::Run(StudioError::OutOfMemory)),

@@ -1,16 +1,14 @@
 //! The whole run over an edited text.
 
-ghost use Rattle.std.specs.Prelude.{◌≢◌, Some, IfSome, IfOk, IfErr};
+ghost use Rattle.std.specs.Prelude.{IfSome, IfOk, IfErr};
 ghost use Rattle.gf_ops.specs.OperationOrder.{IsSite};
-ghost use Rattle.gf_run.specs.declared.studio_error.StudioError.{StudioError};
 ghost use Rattle.gf_run.specs.RunAnswers.{LeavesSinkBy, ReadsInputBy};
-ghost use Rattle.gf_edit.specs.EditRun.{Edits, IsEditOf, RefusesEdit, WritesEdit, of_edit};
+ghost use Rattle.gf_edit.specs.EditRun.{IsEditOf, RefusesEdit, WritesEdit, of_edit};
 
-use crate::edited::Edited;
 use crate::editing::edit;
 use crate::{EditError, Made};
-use gf_run::{StudioError, input};
-use gf_streams::{Sink, SinkFault, Source, write_whole};
+use gf_run::run;
+use gf_streams::{Sink, Source};
 use std::alloc::Global;
 
 /// Reads operation lines of any sites and command lines of this one to their end. The commands make
@@ -39,26 +37,12 @@ pub fn edit_run<R: Source, W: Sink>(
     ensures sink { LeavesSinkBy W.Sink (R.left source.old) (IsEditOf editor) sink.old sink.new
         of_edit result }
 {
-    let edited = edit_lines(alloc, source, editor)?;
-    match write_whole(sink, &edited.text) {
-        Ok(()) => Ok(edited.made),
-        Err(SinkFault) => Err(EditError::Run(StudioError::WriteFailed)),
-    }
-}
-
-/// The lines of what the commands of a source make.
-fn edit_lines<R: Source>(alloc: Global, source: &mut R, editor: u8) -> Result<Edited, EditError>
-    requires { IsSite editor }
-    ensures ok { IfOk result (λ edited. IfSome (R.left source.old) (λ bytes.
-        Edits editor bytes edited.text.items edited.made)) }
-    ensures source { ReadsInputBy R.Source source.old source.new of_edit result }
-    ensures refused { IfErr result (λ e. IfSome (R.left source.old) (λ bytes.
-        RefusesEdit editor bytes e)) }
-    ensures no_write { IfErr result (λ e. of_edit e ≢ Some StudioError.WriteFailed) }
-{
-    let bytes = match input(alloc, source) {
-        Ok(bytes) => bytes,
-        Err(fault) => return Err(EditError::Run(fault)),
-    };
-    edit(alloc, bytes, editor)
+    run(
+        alloc,
+        source,
+        sink,
+        |bytes|
+            requires { IsSite editor }
+        { edit(alloc, bytes, editor) },
+    )
 }

@@ -6,3 +6,4 @@ pub mod AnswerLemmas
 pub mod DrawnLemmas
 pub mod FittedLaws
 pub mod LeavingLemmas
+pub mod RunLemmas

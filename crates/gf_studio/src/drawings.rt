@@ -74,7 +74,7 @@ pub fn drawing_of_fig<R: Source>(
 }
 
 /// The drawing of the history that these bytes denote, and how many operations wait behind it.
-fn draw<T: Threads + Sync>(
+pub(crate) fn draw<T: Threads + Sync>(
     rt: &T,
     alloc: Global,
     bytes: Vec<u8>,

@@ -1,6 +1,6 @@
 //! From the bytes of operation lines to the lines of versions.
 
-ghost use Rattle.std.specs.Prelude.{◌≢◌, ◌≤◌, IfSome, IfOk, IfErr, OnOk};
+ghost use Rattle.std.specs.Prelude.{◌≤◌, IfSome, IfOk, IfErr, OnOk};
 ghost use Rattle.gf_studio.specs.InspectRun.{AnswersQuery, Tells, TellsPresent, TellsTop};
 ghost use Rattle.gf_studio.specs.InspectRun.{WritesAnswer};
 ghost use Rattle.gf_run.specs.RefusedRuns.{IsBetween};
@@ -14,10 +14,10 @@ use gf_json::Notation;
 use gf_listing::Versions;
 use gf_ops::ObjectId;
 use gf_replay::read_replica;
-use gf_run::{StudioError, input};
+use gf_run::{Answer, StudioError, run};
 use gf_shape::{OutOfMemory, Point};
 use gf_site::Replica;
-use gf_streams::{Sink, SinkFault, Source, write_whole};
+use gf_streams::{Sink, Source};
 use std::alloc::Global;
 use std::thread::Threads;
 
@@ -67,31 +67,14 @@ pub fn inspect_run<T: Threads + Sync, R: Source, W: Sink>(
     ensures sink { LeavesSink W.Sink (R.left source.old) (AnswersQuery inspection) sink.old
         sink.new result }
 {
-    let text = answer_of_lines(rt, alloc, source, inspection, workers)?;
-    match write_whole(sink, &text) {
-        Ok(()) => Ok(()),
-        Err(SinkFault) => Err(StudioError::WriteFailed),
-    }
-}
-
-/// The text that answers a query about the history that the lines of a source denote.
-fn answer_of_lines<T: Threads + Sync, R: Source>(
-    rt: &T,
-    alloc: Global,
-    source: &mut R,
-    inspection: Inspection,
-    workers: u8,
-) -> Result<Vec<u8>, StudioError>
-    requires { (1 ≤ workers) × (workers ≤ 16) }
-    ensures ok { IfOk result (λ text. IfSome (R.left source.old) (λ bytes.
-        AnswersQuery inspection bytes text.items)) }
-    ensures source { ReadsInput R.Source source.old source.new result }
-    ensures refused { IfErr result (λ e. IfSome (R.left source.old) (λ bytes.
-        RefusesAnswer inspection.query bytes e)) }
-    ensures no_write { IfErr result (λ e. e ≢ StudioError.WriteFailed) }
-{
-    let bytes = input(alloc, source)?;
-    answer(rt, alloc, bytes, inspection, workers)
+    run(
+        alloc,
+        source,
+        sink,
+        |bytes|
+            requires { (1 ≤ workers) × (workers ≤ 16) }
+        { answer(rt, alloc, bytes, inspection, workers) },
+    )
 }
 
 /// The text that answers a query about the history that these bytes denote.
@@ -101,14 +84,17 @@ fn answer<T: Threads + Sync>(
     bytes: Vec<u8>,
     inspection: Inspection,
     workers: u8,
-) -> Result<Vec<u8>, StudioError>
+) -> Result<Answer<()>, StudioError>
     requires { (1 ≤ workers) × (workers ≤ 16) }
-    ensures ok { IfOk result (λ text. AnswersQuery inspection bytes.items text.items) }
+    ensures ok { IfOk result (λ told. AnswersQuery inspection bytes.items told.text.items) }
     ensures refused { IfErr result (RefusesAnswer inspection.query bytes.items) }
     ensures between { IfErr result IsBetween }
 {
     let replica = read_replica(rt, alloc, bytes, workers)?;
-    tell(alloc, &replica, inspection)
+    match tell(alloc, &replica, inspection) {
+        Ok(text) => Ok(Answer { text, value: () }),
+        Err(e) => Err(e),
+    }
 }
 
 /// The text that answers a query about the history of a replica.

@@ -1,6 +1,6 @@
 //! The run from operation lines to a FIG text whose figures are named.
 
-ghost use Rattle.std.specs.Prelude.{◌≡◌, ◌≢◌, ◌≤◌, IfSome, IfOk, IfErr, OnOk, length};
+ghost use Rattle.std.specs.Prelude.{◌≡◌, ◌≤◌, IfSome, IfOk, IfErr, OnOk, length};
 ghost use Rattle.gf_fig_named.specs.NamedText.{IsNamedText};
 ghost use Rattle.gf_fig_named.specs.ThinPolygons.{AreThinOf};
 ghost use Rattle.gf_studio.specs.FigRun.{Exports, HasThin, HoldsBack, IsNamedOf};
@@ -14,9 +14,9 @@ use gf_drawing::CompileFault;
 use gf_fig_named::{named_bytes, thin_polygons};
 use gf_ops::ObjectId;
 use gf_replay::read_replica;
-use gf_run::{StudioError, input};
+use gf_run::{Answer, StudioError, run};
 use gf_site::Replica;
-use gf_streams::{Sink, SinkFault, Source, write_whole};
+use gf_streams::{Sink, Source};
 use std::alloc::Global;
 use std::thread::Threads;
 
@@ -27,13 +27,6 @@ pub struct NamedRun {
     pub waiting: usize,
     /// The objects of polygons that xfig does not keep, one for each visible version.
     pub thin: Vec<ObjectId>,
-}
-
-/// The named text of lines, and what is told of it.
-#[derive(Drop)]
-struct NamedLines {
-    text: Vec<u8>,
-    run: NamedRun,
 }
 
 /// Reads operation lines to their end, by 1 to 16 workers, and writes the FIG text of their
@@ -70,34 +63,14 @@ pub fn named_fig_run<T: Threads + Sync, R: Source, W: Sink>(
     // At most a prefix of the text is written, and that only where the sink failed.
     ensures sink { LeavesSink W.Sink (R.left source.old) IsNamedOf sink.old sink.new result }
 {
-    let named = named_lines(rt, alloc, source, workers)?;
-    match write_whole(sink, &named.text) {
-        Ok(()) => Ok(named.run),
-        Err(SinkFault) => Err(StudioError::WriteFailed),
-    }
-}
-
-/// The named text of the history that the lines of a source denote, and what is told of it.
-fn named_lines<T: Threads + Sync, R: Source>(
-    rt: &T,
-    alloc: Global,
-    source: &mut R,
-    workers: u8,
-) -> Result<NamedLines, StudioError>
-    requires { (1 ≤ workers) × (workers ≤ 16) }
-    ensures ok { IfOk result (λ named. IfSome (R.left source.old) (λ bytes.
-        IsNamedOf bytes named.text.items)) }
-    ensures waiting { IfOk result (λ named. IfSome (R.left source.old) (λ bytes.
-        HoldsBack bytes named.run.waiting)) }
-    ensures thin { IfOk result (λ named. IfSome (R.left source.old) (λ bytes.
-        HasThin bytes named.run.thin.items)) }
-    ensures source { ReadsInput R.Source source.old source.new result }
-    ensures refused { IfErr result (λ e. IfSome (R.left source.old) (λ bytes.
-        RefusesLines bytes e)) }
-    ensures no_write { IfErr result (λ e. e ≢ StudioError.WriteFailed) }
-{
-    let bytes = input(alloc, source)?;
-    name(rt, alloc, bytes, workers)
+    run(
+        alloc,
+        source,
+        sink,
+        |bytes|
+            requires { (1 ≤ workers) × (workers ≤ 16) }
+        { name(rt, alloc, bytes, workers) },
+    )
 }
 
 /// The named text of the history that these bytes denote, and what is told of it.
@@ -106,11 +79,11 @@ fn name<T: Threads + Sync>(
     alloc: Global,
     bytes: Vec<u8>,
     workers: u8,
-) -> Result<NamedLines, StudioError>
+) -> Result<Answer<NamedRun>, StudioError>
     requires { (1 ≤ workers) × (workers ≤ 16) }
     ensures ok { IfOk result (λ named. IsNamedOf bytes.items named.text.items) }
-    ensures waiting { IfOk result (λ named. HoldsBack bytes.items named.run.waiting) }
-    ensures thin { IfOk result (λ named. HasThin bytes.items named.run.thin.items) }
+    ensures waiting { IfOk result (λ named. HoldsBack bytes.items named.value.waiting) }
+    ensures thin { IfOk result (λ named. HasThin bytes.items named.value.thin.items) }
     ensures refused { IfErr result (RefusesLines bytes.items) }
     ensures between { IfErr result IsBetween }
 {
@@ -120,18 +93,18 @@ fn name<T: Threads + Sync>(
 }
 
 /// The named text of a replica's history, and what is told of it.
-fn name_replica(alloc: Global, replica: &Replica) -> Result<NamedLines, CompileFault>
+fn name_replica(alloc: Global, replica: &Replica) -> Result<Answer<NamedRun>, CompileFault>
     ensures ok { IfOk result (λ named. IsNamedText replica.now.ops named.text.items) }
-    ensures waiting { IfOk result (λ named. named.run.waiting ≡ length replica.now.held) }
-    ensures thin { IfOk result (λ named. AreThinOf replica.now.ops named.run.thin.items) }
+    ensures waiting { IfOk result (λ named. named.value.waiting ≡ length replica.now.held) }
+    ensures thin { IfOk result (λ named. AreThinOf replica.now.ops named.value.thin.items) }
     ensures err { IfErr result (RefusesHistory replica.now.ops) }
 {
     let ranked = ranked_replica(alloc, replica)?;
     let thin = thin_polygons(alloc, &ranked.items)?;
     let text = named_bytes(alloc, replica.history(), ranked)?;
     let waiting = replica.held();
-    Ok(NamedLines {
+    Ok(Answer {
         text,
-        run: NamedRun { waiting, thin },
+        value: NamedRun { waiting, thin },
     })
 }

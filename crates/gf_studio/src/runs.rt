@@ -3,15 +3,16 @@
 ghost use Rattle.std.specs.Prelude.{◌≤◌, IfSome, IfOk, IfErr, OnOk};
 ghost use Rattle.gf_studio.specs.FigRun.{Exports, HoldsBack, IsFigOf, Writes};
 ghost use Rattle.gf_studio.specs.PaintRun.{IsDenoted, IsMeant, PaintsWindow, WritesPicture};
-ghost use Rattle.gf_run.specs.RefusedRuns.{RefusesFig};
+ghost use Rattle.gf_run.specs.RefusedRuns.{IsBetween, RefusesFig};
 ghost use Rattle.gf_studio.specs.RefusedRuns.{RefusesLines};
 ghost use Rattle.gf_run.specs.RunAnswers.{LeavesSink, ReadsInput};
 
-use crate::drawings::drawing_of_lines;
+use crate::drawings::draw;
 use crate::painting::{Extent, Format, Picture, picture_run};
-use gf_fig_write::write_fig;
+use gf_fig_write::fig_bytes;
 use gf_raster::{Gate, Window};
-use gf_run::StudioError;
+use gf_run::{Answer, StudioError, run};
+use gf_shape::OutOfMemory;
 use gf_streams::{Sink, Source};
 use std::alloc::Global;
 use std::thread::Threads;
@@ -19,7 +20,7 @@ use std::thread::Threads;
 /// Reads operation lines to their end, by 1 to 16 workers, and writes the FIG text of their
 /// history's drawing. The answer is how many operations wait, and are not drawn. All is read before
 /// the first write.
-#[tactic(auto, using(crate::proofs::ExportLemmas::exported, crate::proofs::ExportLemmas::fig_of))]
+#[tactic(auto, using(crate::proofs::ExportLemmas::exported))]
 pub fn fig_run<T: Threads + Sync, R: Source, W: Sink>(
     rt: &T,
     alloc: Global,
@@ -48,9 +49,14 @@ pub fn fig_run<T: Threads + Sync, R: Source, W: Sink>(
     // At most a prefix of the text is written, and that only where the sink failed.
     ensures sink { LeavesSink W.Sink (R.left source.old) IsFigOf sink.old sink.new result }
 {
-    let drawn = drawing_of_lines(rt, alloc, source, workers)?;
-    write_fig(alloc, &drawn.drawing, sink)?;
-    Ok(drawn.waiting)
+    run(
+        alloc,
+        source,
+        sink,
+        |bytes|
+            requires { (1 ≤ workers) × (workers ≤ 16) }
+        { fig_of(rt, alloc, bytes, workers) },
+    )
 }
 
 /// Reads operation lines to their end, and writes the picture of their history's colours in a
@@ -120,4 +126,27 @@ pub fn repaint_run<T: Threads + Sync, R: Source, W: Sink, G: Gate + Sync>(
     };
     picture_run(rt, alloc, source, sink, picture, workers, gate)?;
     Ok(())
+}
+
+/// The FIG text of the history that these bytes denote, and how many operations wait behind it.
+fn fig_of<T: Threads + Sync>(
+    rt: &T,
+    alloc: Global,
+    bytes: Vec<u8>,
+    workers: u8,
+) -> Result<Answer<usize>, StudioError>
+    requires { (1 ≤ workers) × (workers ≤ 16) }
+    ensures ok { IfOk result (λ fig. IsFigOf bytes.items fig.text.items) }
+    ensures waiting { IfOk result (λ fig. HoldsBack bytes.items fig.value) }
+    ensures refused { IfErr result (RefusesLines bytes.items) }
+    ensures between { IfErr result IsBetween }
+{
+    let drawn = draw(rt, alloc, bytes, workers)?;
+    match fig_bytes(alloc, &drawn.drawing) {
+        Ok(text) => Ok(Answer {
+            text,
+            value: drawn.waiting,
+        }),
+        Err(OutOfMemory) => Err(StudioError::OutOfMemory),
+    }
 }
