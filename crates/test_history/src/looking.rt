@@ -14,7 +14,10 @@ use test_kit::notation::{id, point};
 /// The versions of an object, by the table.
 pub(crate) fn all(alloc: Global, site: &Site, text: &str) -> Option<String> {
     let object = ObjectId(id(text)?);
-    told(alloc, versions_with(alloc, &Versions::of(site.indexed()), object))
+    told(
+        alloc,
+        versions_with(alloc, &Versions::of(site.indexed()), object),
+    )
 }
 
 /// The versions of an object, by the plain call.

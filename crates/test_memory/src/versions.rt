@@ -311,7 +311,11 @@ fn versions_with(alloc: Global, marks: &mut Marks) -> Option<Came> {
     marks.end();
     Some(match first {
         Err(GroupFault::OutOfMemory) => {
-            let next = gf_inspect::versions_with(alloc, &Versions::of(site.indexed()), ObjectId(BOX));
+            let next = gf_inspect::versions_with(
+                alloc,
+                &Versions::of(site.indexed()),
+                ObjectId(BOX),
+            );
             Came::after_memory(true, are_versions(alloc, next))
         }
         first => Came::first(are_versions(alloc, first)),
