@@ -1,4 +1,3 @@
-pub mod Boxes
 pub mod Importing
 pub mod CreationFaults
 pub mod Imported

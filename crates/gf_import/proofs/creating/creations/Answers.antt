@@ -32,8 +32,8 @@ returns-in-Err-clause-refused c =
     (subst (λ g. made d.table g ≡ Err c.in-Err.fault) item told) in
     let len : c.len.result ≡ length changes = search rules in
     let number : length d.table + length changes + 1
-    ≡ c.object_behind-object.result = ap (λ n. length d.table + n + 1) (sym len)
-    ∙ sym c.object_behind-object.ensures in
+    ≡ c.object_of-object.result = ap (λ n. length d.table + n + 1) (sym len)
+    ∙ sym c.object_of-object.ensures in
     let few : length d.figures ≤ 10000 = search (rules, arith) in
     (few, subst (λ n. IsFirstFault d n c.in-Err.fault) number first)
 

@@ -2,7 +2,7 @@ use Rattle.gf_status.proofs.run.tell.Goals as goal
 
 pub returns : goal.returns
 returns c =
-    let statuses = rw c.versions.ensures.ops at c.in_ok-objects.ensures in
+    let statuses = rw (c.of.ensures.ops, c.indexed.ensures) at c.in_ok-objects.ensures in
     let text = rw (
       c.history-history.ensures.ops,
       c.deref.ensures.value,
