@@ -74,24 +74,3 @@ AllPairs-append R (x ∷ xs) ys p q f =
     AllPairs-cons R x (xs ++ ys) (All-append (R x) xs ys head cross)
     (AllPairs-append R xs ys (λ i j d l m. p (suc i) (suc j) d (omega arith) (omega arith)) q
     (λ a b i j. f a b (Contains-cons_tail x xs a i) j))
-
--- of two elements of the list, which are not one, the one stands to the other
-pub Pairs-two : {X : Type 0} (R : X → X → Type 0) (xs : List X) → ((a b : X) → R a b → R b a)
-    → Pairs R xs → (a b : X) → Contains xs a → Contains xs b → (a ≡ b) ⊎ R a b
-Pairs-two R [] t p a b h i = absurd (not_Contains-nil a h)
-Pairs-two R (x ∷ xs) t p a b h i = elim (Contains-cons_cases x xs a h) [
-  | inl e ↦ elim (Contains-cons_cases x xs b i) [
-    | inl d ↦ inl (e ∙ sym d)
-    | inr j ↦ inr (subst (λ z. R z b) (sym e) (p.0 b j))
-  ]
-  | inr k ↦ elim (Contains-cons_cases x xs b i) [
-    | inl d ↦ inr (t b a (subst (λ z. R z a) (sym d) (p.0 a k)))
-    | inr j ↦ Pairs-two R xs t p.1 a b k j
-  ]
-]
-
-pub AllPairs-from_Pairs : {X : Type 0} (R : X → X → Type 0) (xs : List X) → Pairs R xs
-    → AllPairs R xs
-AllPairs-from_Pairs R [] p = λ i j d l m. absurd (omega arith)
-AllPairs-from_Pairs R (x ∷ xs) p = AllPairs-cons R x xs
-    (λ k d l. p.0 (get_or xs k d) (Contains-get_or xs k d l)) (AllPairs-from_Pairs R xs p.1)

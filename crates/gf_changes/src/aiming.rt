@@ -1,8 +1,8 @@
 //! At which operations a change is aimed, so that it is meant for some versions alone.
 
+use gf_base::OutOfMemory;
 use gf_names::{rising, telling};
 use gf_ops::{History, Ids, OpId};
-use gf_shape::OutOfMemory;
 use gf_versions::Version;
 use std::alloc::Global;
 

@@ -4,8 +4,9 @@ use crate::Target;
 use crate::aiming::{MOST_AIMED, aim_at, aim_to_keep, fewest, has_all, told_from};
 use crate::comparing::{moved, points_from, size_of};
 use crate::matching::Matching;
+use gf_base::OutOfMemory;
 use gf_ops::{Attr, Change, Form, History, Ids, ObjectId, OpId, Start, Value};
-use gf_shape::{OutOfMemory, Point};
+use gf_shape::Point;
 use gf_versions::Version;
 use std::alloc::Global;
 

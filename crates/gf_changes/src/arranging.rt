@@ -5,8 +5,8 @@ use crate::aiming::has_all;
 use crate::altering::change_all;
 use crate::matching::Matching;
 use crate::ordering::{Look, Row, Spot, Standing, layers_of};
+use gf_base::OutOfMemory;
 use gf_ops::{Change, History, Start, Value};
-use gf_shape::OutOfMemory;
 use gf_versions::Version;
 use std::alloc::Global;
 

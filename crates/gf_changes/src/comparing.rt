@@ -1,7 +1,8 @@
 //! How a figure differs from a version.
 
+use gf_base::OutOfMemory;
 use gf_ops::{Form, Points, Start, Value};
-use gf_shape::{OutOfMemory, Point};
+use gf_shape::Point;
 use gf_versions::Version;
 use std::alloc::Global;
 

@@ -3,9 +3,9 @@
 use crate::Target;
 use crate::aiming::has_all;
 use crate::comparing::compared;
+use gf_base::OutOfMemory;
 use gf_fig_named::Named;
 use gf_ops::{Clock, Form, OpId};
-use gf_shape::OutOfMemory;
 use gf_versions::Version;
 use std::alloc::Global;
 

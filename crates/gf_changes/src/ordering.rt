@@ -1,7 +1,8 @@
 //! Which layers give figures their order, with few changes. Order counts only between figures of
 //! different colours whose bounds meet.
 
-use gf_shape::{Bounds, OutOfMemory, Rgb};
+use gf_base::OutOfMemory;
+use gf_shape::{Bounds, Rgb};
 use std::alloc::Global;
 
 /// The highest layer.

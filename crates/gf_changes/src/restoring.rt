@@ -5,8 +5,8 @@ use crate::aiming::{MOST_AIMED, aim_to_keep};
 use crate::altering::shown;
 use crate::comparing::compared;
 use crate::matching::is_named;
+use gf_base::OutOfMemory;
 use gf_ops::{Change, History, ObjectId};
-use gf_shape::OutOfMemory;
 use gf_versions::Version;
 use std::alloc::Global;
 

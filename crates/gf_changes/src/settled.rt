@@ -2,9 +2,10 @@
 
 ghost use Rattle.gf_versions.specs.Ranking.{AreRanked};
 
+use gf_base::OutOfMemory;
 use gf_groups::Group;
 use gf_ops::History;
-use gf_shape::{AnyShape, OutOfMemory};
+use gf_shape::AnyShape;
 use gf_versions::{Placed, Version, settle};
 use std::alloc::Global;
 

@@ -1,9 +1,10 @@
 //! What is to be shown: the figures of a drawing, with the names that they have.
 
+use gf_base::OutOfMemory;
 use gf_fig_named::{Name, Named};
 use gf_figures::Drawing;
 use gf_ops::Start;
-use gf_shape::{Bounds, OutOfMemory, Outline, Shape};
+use gf_shape::{Bounds, Outline, Shape};
 use std::alloc::Global;
 
 /// A figure that is to be shown: what an object of it begins with, and its name, if it has one.

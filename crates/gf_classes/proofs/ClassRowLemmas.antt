@@ -18,13 +18,6 @@ use Rattle.gf_classes.specs.ClassRows.{Meets, AddsMet, IsNear, IsRowOver}
 use Rattle.gf_classes.specs.ClassRows.{AreDirectRows, AreJoinedRows, AreAllRows}
 use Rattle.gf_classes.proofs.OwnLemmas.{Contains-joined}
 
-pub intersects-sym : (d g : List ℕ) → intersects d g ≡ intersects g d
-intersects-sym d g = same_from_decides (intersects d g) (intersects g d) (turned d g, turned g d)
-    (λ t. t, λ t. t)
-  where
-    turned : (x y : List ℕ) → intersects x y ≡ true → intersects y x ≡ true
-    turned x y t = let w = intersects_one x y t in intersects_from y x w.0 w.2 w.1
-
 -- ---- the sets that have one of the numbers, one by one
 
 module _ (n : ℕ) (sets : List (List ℕ)) (set : List ℕ) (i : ℕ) (d : List ℕ)

@@ -70,12 +70,6 @@ at_itself p = ap is_eq (tied_itself fingerprint_cmp_total p)
 pub at_same : (p q : Fingerprint) → is_at (fingerprint_cmp p) q ≡ true → p ≡ q
 at_same p q t = fingerprint_cmp_exact p q ((Equal-is (fingerprint_cmp p q)).0 t)
 
-pub at_other : (p q : Fingerprint) → p ≢ q → is_at (fingerprint_cmp p) q ≡ false
-at_other p q n = elim (cases_Bool (is_at (fingerprint_cmp p) q)) [
-  | inl y ↦ absurd (n (at_same p q y))
-  | inr f ↦ f
-]
-
 pub same_told : (r s : Option Fingerprint) → are_same r s ≡ true → r ≡ s
 same_told (Some p) (Some q) t = ap Some (fingerprint_cmp_exact p q
     ((Equal-is (fingerprint_cmp p q)).0 t))

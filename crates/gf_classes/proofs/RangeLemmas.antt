@@ -174,45 +174,6 @@ module _ (ss : List Setter) (sorted : AreSorted ss) where
 
 -- ---- what is cut off
 
-pub trims_front : (cut : List Run) (r o : Run) → Contains cut o → o.start ≤ r.start
-    → r.start < o.end → Trims cut r (record { start = o.end; end = r.end })
-trims_front cut r o c s e q out = (
-  λ w. let lo = w.0 in (
-    elim (cases_lt q o.end) [
-      | inl l ↦ absurd (out (record {
-        run = o;
-        contained = c;
-        from = omega (arith, s, lo);
-        below = l;
-      }))
-      | inr l ↦ l
-    ],
-    w.1,
-  ),
-  λ w. let lo = w.0 in (omega (arith, e, lo), w.1),
-)
-
-pub trims_back : (cut : List Run) (r o : Run) → Contains cut o → o.start < r.end → r.end ≤ o.end
-    → Trims cut r (record { start = r.start; end = o.start })
-trims_back cut r o c s e q out = (
-  λ w. let hi = w.1 in (
-    w.0,
-    elim (cases_lt q o.start) [
-      | inl l ↦ l
-      | inr l ↦ absurd (out (record {
-        run = o;
-        contained = c;
-        from = l;
-        below = omega (arith, hi, e);
-      }))
-    ],
-  ),
-  λ w. let hi = w.1 in (w.0, omega (arith, s, hi)),
-)
-
-pub trims_none : (cut : List Run) (r : Run) → Trims cut r r
-trims_none cut r q out = (λ w. w, λ w. w)
-
 pub cut_range : (ss : List Setter) (x : Setter) (s : ℕ) (cut : List Run) (r t u : Run)
     → IsRange ss x s r → Trims cut r t → Trims cut t u → IsCutRange ss x s cut u
 cut_range ss x s cut r t u i a b = record {
@@ -228,15 +189,6 @@ cut_range ss x s cut r t u i a b = record {
 }
 
 -- ---- all sites
-
-pub no_ranges : (ss : List Setter) (x : Setter) (cut : List Run) → AreRanges ss x 0 cut []
-no_ranges ss x cut = record {
-  bound = λ q out w. absurd (not_Contains-nil w.run w.contained);
-  found = λ q e at out. (
-    λ w. absurd (not_Contains-nil w.run w.contained),
-    λ w. let l = w.0 in absurd (omega (arith, l)),
-  );
-}
 
 pub one_range : (ss : List Setter) (x : Setter) (m : ℕ) (cut rs new : List Run) (r : Run)
     → new ≡ rs ++ r ∷ [] → AreRanges ss x m cut rs → IsCutRange ss x m cut r

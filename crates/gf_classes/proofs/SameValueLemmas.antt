@@ -54,12 +54,6 @@ Contains-ranks_at old new p x f q n = elim (cases_Bool (is_at (fingerprint_cmp p
       )
 ]
 
-pub lists_none : (ps : List Fingerprint) → Lists ps 0 []
-lists_none ps p n = (
-  λ c. absurd (not_Contains-nil n c),
-  λ i. let l = i.0 in absurd (omega (arith, l)),
-)
-
 pub lists_more : (ps : List Fingerprint) (m : ℕ) (e : Fingerprint) (old new : Entries)
     → slice_get ps m ≡ Some e → Lists ps m old → PutsRank old e m new → Lists ps (m + 1) new
 lists_more ps m e old new at a put p n =

@@ -109,7 +109,7 @@ fn slots_of(
     Ok(slots)
 }
 
-/// So many empty sets.
+/// As many empty sets as `count` says.
 fn empty_sets(alloc: Global, count: usize) -> Result<Vec<Numbers>, OutOfMemory>
     ensures count { IfOk result (λ sets. length sets.items ≡ count) }
     ensures empty { IfOk result (λ sets. (e : _) → slice_index_or sets.items e [] ≡ []) }
@@ -151,8 +151,7 @@ fn classes_over(
     requires { AreGiven history.now.ops positions.now direct }
     ensures { IfOk result (λ found. AreClassesOf history.now.ops positions.now found) }
 {
-    // The clause of `ops` says that the history is valid.
-    let _ = history.ops();
+    history.recall_valid();
     let mut joints = Joints::new(alloc);
     let slots = slots_of(alloc, history, positions, &direct, &mut joints)?;
     let rows = all_rows(alloc, direct.into_rows(), joints.owns())?;

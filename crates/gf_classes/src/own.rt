@@ -41,8 +41,7 @@ fn class_named(history: &History, positions: &[usize], direct: &Direct, id: OpId
     ensures all { (k : _)
         → IsNamed history.now.ops positions.now direct.now id k → result ≡ Some k }
 {
-    // The clause of `ops` says that the history is valid.
-    let _ = history.ops();
+    history.recall_valid();
     match history.position(id) {
         Some(position) => class_of(positions, direct, position),
         None => None,

@@ -188,11 +188,11 @@ abbrev pub IsInspection : List Row → Result Inspection QueryFault → Type 0
 IsInspection rows (Ok i) = IsInspected rows (Ok i.query) × (i.notation ≡ asked_notation rows)
 IsInspection rows (Err fault) = IsInspected rows (Err fault)
 
--- the command of this name was met, with rows of which the property holds
+-- the command of this name was given, with rows of which P holds
 abbrev pub Meets : Option (Text × List Row) → Text → (List Row → Type 0) → Type 0
 Meets met name P = (rows : List Row) × (met ≡ Some (name, rows)) × P rows
 
--- what a command asks for that was met with its rows
+-- the run that a command asks for, given with its rows
 abbrev pub AsksRun : Option (Text × List Row) → Run → Type 0
 AsksRun met (Fig workers) = Meets met (codes "fig") (λ rows. IsFig rows (Fig workers))
 AsksRun met (NamedFig workers) = Meets met (codes "fig") (λ rows. IsFig rows (NamedFig workers))

@@ -18,9 +18,11 @@ use crate::describing::program;
 use crate::querying::{spelt_id, spelt_point};
 use crate::runs::{Asked, Canvas, Editor, Mistake, QueryFault, Run, Workers};
 use clap::{ArgMatches, Error};
+use gf_fit::Frame;
 use gf_json::Notation;
 use gf_ops::ObjectId;
-use gf_studio::{Extent, Frame, Inspection, Query, Window};
+use gf_scanline::Window;
+use gf_studio::{Extent, Inspection, Query};
 use std::alloc::Global;
 
 /// Reads the words, the first of which is the program's name. The answer is none where an option

@@ -3,7 +3,8 @@
 ghost use Rattle.std.specs.Prelude.{◌≡◌};
 ghost use Rattle.gf_command.specs.Outcomes.{chosen_numbers, numbers_of};
 
-use gf_studio::{Extent, Window};
+use gf_scanline::Window;
+use gf_studio::Extent;
 use std::fmt;
 
 /// The numbers of a window, which is told in the words that choose it again.

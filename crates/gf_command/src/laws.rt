@@ -12,7 +12,7 @@ ghost use Rattle.gf_studio.specs.PaintRun.{PictureOf};
 ghost use Rattle.gf_edit.specs.EditedText.{JoinsEdit};
 
 /// `fig` and `paint` make the same of what an edit read and made as of lines of the history itself.
-/// That history is what was read, with the new operations behind it.
+/// The history is what was read, with the new operations behind it.
 pub fn what_an_edit_writes_is_drawn_with_what_it_read()
     ensures drawing { (s : ℕ) (bytes others lines : List ℕ) (new : List Op) → IsSite s →
         (j : JoinsEdit s bytes new others) → Denotes lines (j.edit.history ++ new) →

@@ -5,8 +5,10 @@ ghost use Rattle.gf_command.specs.Outputs.{WritesExtent, WritesExtentPrefix};
 
 use crate::Canvas;
 use crate::chosen::{Chosen, chosen_numbers};
+use gf_gate::OpenGate;
+use gf_run::StudioError;
 use gf_streams::{Sink, Source};
-use gf_studio::{Format, OpenGate, Picture, StudioError, picture_run};
+use gf_studio::{Format, Picture, picture_run};
 use std::alloc::Global;
 use std::thread::Threads;
 

@@ -2,8 +2,8 @@
 
 use gf_edit::EditError;
 use gf_import::ImportError;
+use gf_run::StudioError;
 use gf_session_run::SessionRunError;
-use gf_studio::StudioError;
 use gf_take_run::TakeRunError;
 use thiserror::Error;
 

@@ -7,8 +7,9 @@ ghost use Rattle.gf_versions.specs.declared.ranking.TheConstants.{MOST_VERSIONS}
 ghost use Rattle.gf_drawing.specs.CanonicalDrawing.{Fits, canonical_drawing, canonical_table};
 ghost use Rattle.gf_drawing.specs.CanonicalDrawing.{colours_of, number_of};
 
+use gf_base::OutOfMemory;
 use gf_figures::{Drawing, Figure};
-use gf_shape::{OutOfMemory, Rgb, Shape};
+use gf_shape::{Rgb, Shape};
 use gf_versions::{MOST_VERSIONS, Placed, Ranked};
 use indexmap::IndexSet;
 use std::alloc::Global;

@@ -52,7 +52,7 @@ pub record HasLineFault (s : ℕ) (bytes : List ℕ) (n : ℕ) (cause : LineCaus
   pub fault : IsEntryFault s (ops_in at.entries) line cause
 
 -- with some line, the operation under this id is ready behind a delivery of the operations so far.
--- That delivery is a valid history, to which the operation cannot be added, for this fault
+-- What they deliver is a valid history, to which the operation cannot be added, for this fault
 pub record DropsAt (s : ℕ) (bytes : List ℕ) (id : OpId) (fault : OpFault) : Type 0 where
   pub number : ℕ
   pub line : List ℕ

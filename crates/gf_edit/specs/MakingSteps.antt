@@ -37,7 +37,8 @@ of_author n fault.BadAim = edit.Refused n cause.BadAim
 of_author n fault.OutOfMemory = edit.Run studio.OutOfMemory
 
 -- the site makes an operation of the change, its line is appended, and it is told as the last
-pub record WritesOp (c : Change) (old new : SiteState) (before after : Answer (Option Made)) : Type 0 where
+pub record WritesOp (c : Change) (old new : SiteState) (before after : Answer (Option Made))
+    : Type 0 where
   pub op : Op
   pub authors : Authors old c op new
   pub is : after.text.items ≡ before.text.items ++ written_line op
@@ -57,8 +58,8 @@ told_after made [] = made
 told_after made (a ∷ ops) = told_after (Some (made_until made a.id)) ops
 
 -- the site made an operation of each of the changes, and their lines are appended
-pub record WritesEach (changes : List Change) (old new : SiteState) (before after : Answer (Option Made))
-    : Type 0 where
+pub record WritesEach (changes : List Change) (old new : SiteState)
+    (before after : Answer (Option Made)) : Type 0 where
   pub ops : List Op
   pub makes : MakesEach old.number old.ops changes ops
   pub had : new.ops ≡ old.ops ++ ops
@@ -68,7 +69,8 @@ pub record WritesEach (changes : List Change) (old new : SiteState) (before afte
   pub reads : (a : Op) → Contains ops a → denoted (op_text a) ≡ Ok a
 
 -- the site made the operations that keep what k names
-pub record WritesKeep (k : Keep) (old new : SiteState) (before after : Answer (Option Made)) : Type 0 where
+pub record WritesKeep (k : Keep) (old new : SiteState) (before after : Answer (Option Made))
+    : Type 0 where
   pub changes : List Change
   pub keeping : AreKeeping old.ops k changes
   pub writes : WritesEach changes old new before after
@@ -80,7 +82,8 @@ RefusesEach n changes x (edit.Run studio.OutOfMemory) = ⊤
 RefusesEach n changes x other = ⊥
 
 -- the site passes the command, and what it makes is written
-abbrev pub Passes : EditCommand → SiteState → SiteState → Answer (Option Made) → Answer (Option Made) → Type 0
+abbrev pub Passes : EditCommand → SiteState → SiteState → Answer (Option Made)
+    → Answer (Option Made) → Type 0
 Passes (command.Author c) old new before after = WritesOp c old new before after
 Passes (command.Await i) old new before after =
     AwaitAnswer old.number old.ops [] i None × (new ≡ old) × (after ≡ before)
@@ -94,8 +97,8 @@ RefusesCommand n c x (edit.Run studio.OutOfMemory) = ⊤
 RefusesCommand n c x other = ⊥
 
 -- the site, which had h, passed these commands, and what it made is written
-pub record HasPassed (s : ℕ) (h : List Op) (commands : List Numbered) (x : SiteState) (e : Answer (Option Made))
-    : Type 0 where
+pub record HasPassed (s : ℕ) (h : List Op) (commands : List Numbered) (x : SiteState)
+    (e : Answer (Option Made)) : Type 0 where
   pub new : List Op
   pub makes : Makes s h commands new
   pub ops : x.ops ≡ h ++ new

@@ -1,7 +1,7 @@
 -- The lines of a name tell it.
 --
 -- A line that names a figure, or goes on with a name, tells more by each word behind it: it grows.
--- So the lines of a name tell its ids one after another.
+-- The lines of a name tell its ids one after another.
 use Rattle.std.proofs.Common.{◌≡◌, ◌≤◌, ℕ, ◌+◌, ◌%◌, true, false, List, [], ◌∷◌, ◌++◌, refl}
 use Rattle.std.proofs.Common.{sym, ap, subst, ◌∙◌, inl, inr, arith, append_assoc, append-nil}
 use Rattle.std.specs.Prelude.{All, Option, Some, codes, filter_map, flat_map, ◌==◌}

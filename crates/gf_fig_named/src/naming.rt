@@ -46,8 +46,7 @@ pub fn names_of(
     ensures { IfOk result (λ names.
         AllZip (IsNameOf history.now.ops items.now) items.now names.items) }
 {
-    // The clause of `ops` says that the history is valid.
-    let _ = history.ops();
+    history.recall_valid();
     let mut names = Vec::new(alloc);
     let mut lead = Lead {
         first: 0,

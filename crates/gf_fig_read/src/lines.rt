@@ -10,9 +10,10 @@ ghost use Rattle.gf_fig_read.specs.Stepping.{Finds};
 
 use crate::FigError;
 use crate::objects::add_object;
+use gf_base::OutOfMemory;
 use gf_fig_tokens::{FigFault, Tokens, line_count, token_line};
 use gf_figures::Drawing;
-use gf_shape::{OutOfMemory, Outline};
+use gf_shape::Outline;
 use std::alloc::Global;
 
 /// The line at which a fault is reported. Each fault that a text has is reported at a line.

@@ -8,8 +8,9 @@ ghost use Rattle.gf_fig_write.specs.FigText.{fig_text, figure_lines};
 
 use crate::colours::push_table;
 use crate::outlines::push_outline;
+use gf_base::OutOfMemory;
 use gf_figures::{Drawing, Figure};
-use gf_shape::{OutOfMemory, Shape};
+use gf_shape::Shape;
 use std::alloc::Global;
 
 /// The lines before the colours.

@@ -11,7 +11,8 @@ ghost use Rattle.gf_figures.specs.DrawingColour.{front_colour};
 ghost use Rattle.gf_figures.specs.FrontMost.{front_at, is_no_deeper, nearer_at};
 
 use crate::{ColourTable, Figure};
-use gf_shape::{OutOfMemory, Point, Rgb, Shape};
+use gf_base::OutOfMemory;
+use gf_shape::{Point, Rgb, Shape};
 use std::alloc::Global;
 use std::marker::Model;
 

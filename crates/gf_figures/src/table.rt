@@ -4,7 +4,8 @@ ghost use Rattle.std.specs.Prelude.{◌≡◌, [], ◌∷◌, ◌++◌, length, 
 ghost use Rattle.gf_figures.specs.Colours.{colour_in};
 ghost use Rattle.gf_figures.specs.DrawingState.{IsFreeNumber};
 
-use gf_shape::{OutOfMemory, Rgb};
+use gf_base::OutOfMemory;
+use gf_shape::Rgb;
 use indexmap::IndexMap;
 use std::alloc::Global;
 use std::marker::Model;

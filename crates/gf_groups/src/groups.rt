@@ -18,8 +18,7 @@ use std::alloc::Global;
 pub fn is_made(history: &History, object: ObjectId) -> bool
     ensures { IsTrue result ↔ IsMade history.now.ops object }
 {
-    // The clause of `ops` says that the history is valid.
-    let _ = history.ops();
+    history.recall_valid();
     match history.get(object.0) {
         Some(maker) => matches!(maker.change, Change::Create(_)),
         None => false,
@@ -39,8 +38,7 @@ pub fn groups_from(
         (positions_on history.now.ops object) sets.items }
     ensures { IfOk result (λ groups. AreVersions history.now.ops object groups) }
 {
-    // The clause of `ops` says that the history is valid.
-    let _ = history.ops();
+    history.recall_valid();
     let mut groups = Vec::new(alloc);
     add_groups(alloc, history, object, sets, &mut groups)?;
     sort(&mut groups)?;

@@ -12,10 +12,11 @@ ghost use Rattle.gf_import.specs.Importing.{creations_of};
 ghost use Rattle.gf_import.specs.Imported.{IsImportable, history_of};
 
 use crate::CreationError;
+use gf_base::OutOfMemory;
 use gf_figures::{Drawing, Figure};
 use gf_objects::{FigureFault, object_of, start_fault, start_of};
 use gf_ops::Change;
-use gf_shape::{OutOfMemory, Outline};
+use gf_shape::Outline;
 use std::alloc::Global;
 
 /// The greatest number of operations of a site.

@@ -1,7 +1,7 @@
 //! Why a drawing has no creations.
 
+use gf_base::OutOfMemory;
 use gf_objects::FigureFault;
-use gf_shape::OutOfMemory;
 use thiserror::Error;
 
 /// Why a drawing has no creations.

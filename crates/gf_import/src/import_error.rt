@@ -5,10 +5,10 @@ ghost use Rattle.gf_import.specs.declared.import_error.ImportError.TheVariants a
 ghost use Rattle.gf_import.specs.ImportRun.{of_import};
 ghost use Rattle.gf_run.specs.declared.studio_error.StudioError.TheVariants as studio;
 
+use gf_base::OutOfMemory;
 use gf_fig_read::FigError;
 use gf_objects::FigureFault;
 use gf_run::{RunError, StudioError};
-use gf_shape::OutOfMemory;
 use thiserror::Error;
 
 /// Why an import was refused.

@@ -9,11 +9,11 @@ ghost use Rattle.gf_import.specs.ImportRun.{HasNoCreations, Imports, RefusesImpo
 ghost use Rattle.gf_import.specs.ImportSteps.{AreWritten, HasCreations, IsReadAgain};
 
 use crate::{CreationError, ImportError, creations};
+use gf_base::OutOfMemory;
 use gf_fig_read::{FigError, fault_line, object_line, read_fig};
 use gf_json::{Command, ScriptLine, script_line};
 use gf_ops::Change;
 use gf_run::{Answer, StudioError};
-use gf_shape::OutOfMemory;
 use std::alloc::Global;
 
 /// The lines of the commands of a site that create the figures of a FIG text.

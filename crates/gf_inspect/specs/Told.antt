@@ -1,5 +1,5 @@
--- What is told of the versions of objects, and of what is on top, in words or as JSON (this project's
--- choice).
+-- What is told of the versions of objects, and of what is on top, in words or as JSON (this
+-- project's choice).
 use Rattle.std.specs.Prelude.{◌≡◌, ◌≤◌, ◌<◌, ◌&&◌, ℕ, nat_le, Bool, false, IsTrue, List, []}
 use Rattle.std.specs.Prelude.{◌∷◌, ◌++◌, Option, flat_map}
 use Rattle.gf_json.specs.declared.notation.Notation.{Notation}

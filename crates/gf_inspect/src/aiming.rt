@@ -4,8 +4,9 @@ ghost use Rattle.std.specs.Prelude.{◌≡◌, IfOk, option_map};
 ghost use Rattle.gf_inspect.specs.AimedChange.{AimsAtTop, aimed_change};
 
 use crate::{VersionName, top_at};
+use gf_base::OutOfMemory;
 use gf_ops::{Change, History, Value};
-use gf_shape::{OutOfMemory, Point};
+use gf_shape::Point;
 use std::alloc::Global;
 
 /// The change that sets this value on the object on top at a point, aimed at the version seen

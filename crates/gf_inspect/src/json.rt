@@ -7,9 +7,10 @@ ghost use Rattle.gf_json.specs.WrittenMembers.{put_all};
 ghost use Rattle.gf_inspect.specs.VersionJson.{many_data, name_members, top_data, version_data};
 
 use crate::VersionName;
+use gf_base::OutOfMemory;
 use gf_json::{colour_data, ids_data, name_data, point_data, push_line, put_form};
 use gf_ops::ObjectId;
-use gf_shape::{OutOfMemory, Point};
+use gf_shape::Point;
 use gf_versions::{MOST_VERSIONS, Version};
 use serde_json::{Map, Value, put};
 use std::alloc::{AllocError, Global};

@@ -8,10 +8,10 @@ ghost use Rattle.gf_groups.specs.Versions.{IsMade, IsVersionGroup};
 ghost use Rattle.gf_inspect.specs.ObjectVersions.{AreVersionsOf};
 ghost use Rattle.gf_inspect.specs.Falling.{falling_cmp, IsSettledFalling};
 
+use gf_base::OutOfMemory;
 use gf_groups::{Group, GroupFault};
 use gf_listing::{Versions, groups_of};
 use gf_ops::{History, ObjectId};
-use gf_shape::OutOfMemory;
 use gf_versions::{Version, settle_all};
 use std::alloc::Global;
 
@@ -25,8 +25,7 @@ pub fn versions(
         AreVersionsOf history.now.ops object versions.items) }
     ensures no_object { result ≡ Err GroupFault.NoObject ↔ (¬ IsMade history.now.ops object) }
 {
-    // The clause of `ops` says that the history is valid.
-    let _ = history.ops();
+    history.recall_valid();
     let groups = groups_of(alloc, history, object)?;
     match settled(alloc, history, groups.as_slice()) {
         Ok(versions) => Ok(versions),

@@ -6,12 +6,13 @@ ghost use Rattle.gf_inspect.specs.Told.{TellsObject, TellsObjects, is_left_out, 
 ghost use Rattle.gf_inspect.specs.Told.{told_top, told_version};
 
 use crate::{VersionName, json, texts, versions_with};
+use gf_base::OutOfMemory;
 use gf_groups::GroupFault;
 use gf_json::Notation;
 use gf_listing::Versions;
 use gf_names::objects;
 use gf_ops::ObjectId;
-use gf_shape::{OutOfMemory, Point};
+use gf_shape::Point;
 use gf_versions::{MOST_VERSIONS, Version};
 use std::alloc::{AllocError, Global};
 

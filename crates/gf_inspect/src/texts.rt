@@ -8,10 +8,10 @@ ghost use Rattle.gf_inspect.specs.VersionLines.{shown_word, form_text, look_text
 ghost use Rattle.gf_inspect.specs.VersionLines.{many_line, top_text, top_line};
 
 use crate::VersionName;
-use gf_base::push_number;
+use gf_base::{OutOfMemory, push_number};
 use gf_ops::{Form, ObjectId, OpId, push_id, push_spaced_ids};
 use gf_plane::push_hex_rgb;
-use gf_shape::{OutOfMemory, Point, Rgb};
+use gf_shape::{Point, Rgb};
 use gf_versions::Version;
 use std::alloc::{AllocError, Global};
 

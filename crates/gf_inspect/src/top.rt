@@ -6,9 +6,10 @@ ghost use Rattle.gf_shape.specs.ShapeMeaning.{any_holds};
 ghost use Rattle.gf_versions.specs.declared.placed.Placed.{Placed};
 ghost use Rattle.gf_inspect.specs.TopVersion.{NamesTop, name_of};
 
+use gf_base::OutOfMemory;
 use gf_listing::Versions;
 use gf_ops::{History, Ids, ObjectId};
-use gf_shape::{AnyShape, OutOfMemory, Point, Shape};
+use gf_shape::{AnyShape, Point, Shape};
 use gf_versions::Ranked;
 use gf_visible::{ranked, ranked_all};
 use std::alloc::Global;

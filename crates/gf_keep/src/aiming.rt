@@ -46,8 +46,7 @@ pub(crate) fn aim_at(
     requires { AreIdsOn history.now.ops group.now.object others.now }
     ensures { IfOk result (λ ids. AreAimedAt history.now.ops group.now ids) }
 {
-    // The clause of `ops` says that the history is valid.
-    let _ = history.ops();
+    history.recall_valid();
     let marks = telling(alloc, history, group.ops.as_slice(), others)?;
     let mut found = Vec::new(alloc);
     add_all(history, marks.as_slice(), &mut found)?;
@@ -70,8 +69,7 @@ fn add_one(history: &History, id: OpId, found: &mut Vec<OpId>) -> Result<(), Out
     ensures { OnOk result ((i : OpId) → Contains found.new.items i ↔ (Contains found.old.items i
         ⊎ IsBrought history.now.ops id i)) }
 {
-    // The clause of `ops` says that the history is valid.
-    let _ = history.ops();
+    history.recall_valid();
     found.push(id)?;
     if let Some(op) = history.get(id) {
         found.extend_from_slice(op.aim())?;

@@ -28,8 +28,7 @@ pub fn telling(
     ensures { IfOk result (λ ids. AreTelling history.now.ops members.now
         (IsMember history.now.ops others.now) ids) }
 {
-    // The clause of `ops` says that the history is valid.
-    let _ = history.ops();
+    history.recall_valid();
     if others.is_empty() {
         return rising(alloc, others);
     }
@@ -81,8 +80,7 @@ fn add_last(
     ensures { OnOk result ((i : OpId) → Contains found.new.items i ↔ (Contains found.old.items i
         ⊎ TellsAt history.now.ops ids.now other i)) }
 {
-    // The clause of `ops` says that the history is valid.
-    let _ = history.ops();
+    history.recall_valid();
     let Some(other) = history.get(other) else {
         return Ok(());
     };
@@ -131,8 +129,7 @@ fn conflicts_at(history: &History, op: &Op, id: OpId) -> bool
     requires { IsInRange op.now }
     ensures { IsTrue result ↔ ConflictsAt history.now.ops op.now id }
 {
-    // The clause of `ops` says that the history is valid.
-    let _ = history.ops();
+    history.recall_valid();
     match history.get(id) {
         Some(member) => direct_conflict(op, member),
         None => false,

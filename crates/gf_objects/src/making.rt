@@ -11,9 +11,10 @@ ghost use Rattle.gf_figures.specs.DrawingColour.{figure_colour};
 ghost use Rattle.gf_objects.specs.Objects.{form_of, place_of, seen_from, start_of};
 
 use crate::boxes::{box_form, is_box, least_corner, point_at};
+use gf_base::OutOfMemory;
 use gf_figures::{Drawing, Figure};
 use gf_ops::{Form, Points, Start};
-use gf_shape::{Chain, OutOfMemory, Outline, Point, Rgb};
+use gf_shape::{Chain, Outline, Point, Rgb};
 use std::alloc::Global;
 
 /// The colour of a figure whose number has none.

@@ -39,8 +39,7 @@ impl History {
         requires object { AreOnOne self.now.ops ids.now }
         ensures { IsTrue result ↔ AreDirectlyCompatible self.now.ops ids.now }
     {
-        // The clause of `ops` says that the history is valid.
-        let _ = self.ops();
+        self.recall_valid();
         for site in 1..9 {
             if !self.are_parted_below(ids, site) {
                 return false;
@@ -73,8 +72,7 @@ impl History {
         requires site { IsSite site }
         ensures { IsTrue result ↔ AreParted self.now.ops ids.now ids.now site other }
     {
-        // The clause of `ops` says that the history is valid.
-        let _ = self.ops();
+        self.recall_valid();
         let mut table = [None; 6];
         let mut noted = 0;
         for id in ids {
@@ -104,8 +102,7 @@ impl History {
         ensures stop { (d : OpId) → result < length ids.now
             → KnewAt self.now.ops site id (slice_index_or ids.now result d) }
     {
-        // The clause of `ops` says that the history is valid.
-        let _ = self.ops();
+        self.recall_valid();
         let mut noted = from;
         while noted < ids.len() && !self.knew(ids[noted], site, id) {
             self.note(ids[noted], site, table);
@@ -119,8 +116,7 @@ impl History {
         requires { IsSite id.site }
         ensures { IsTrue result ↔ KnewAt self.now.ops site id by }
     {
-        // The clause of `ops` says that the history is valid.
-        let _ = self.ops();
+        self.recall_valid();
         if by.site != site {
             return false;
         }
@@ -136,8 +132,7 @@ impl History {
             → IsAimTable self.now.ops ids site table.old
             → IsAimTable self.now.ops (ids ++ id ∷ []) site table.new }
     {
-        // The clause of `ops` says that the history is valid.
-        let _ = self.ops();
+        self.recall_valid();
         if let Some(value) = self.setting(id, site) {
             let index = index_of(value);
             let latest = table[index];
@@ -150,8 +145,7 @@ impl History {
         ensures found { IfSome result (λ value. SetsAt self.now.ops site id value.now) }
         ensures none { IfNone result (¬ SetsSome self.now.ops site id) }
     {
-        // The clause of `ops` says that the history is valid.
-        let _ = self.ops();
+        self.recall_valid();
         if id.site != site {
             return None;
         }
@@ -168,8 +162,7 @@ impl History {
             → SetsAt self.now.ops site id value.now
             → IsLatest self.now.ops (ids ++ id ∷ []) site (index_of value.now) result }
     {
-        // The clause of `ops` says that the history is valid.
-        let _ = self.ops();
+        self.recall_valid();
         let other = match latest {
             Some(Latest { nearest, other }) => {
                 if self.gives_another(nearest, value) {
@@ -187,8 +180,7 @@ impl History {
     fn gives_another(&self, id: OpId, value: &Value) -> bool
         ensures { IsTrue result ↔ GivesAnother self.now.ops id value.now }
     {
-        // The clause of `ops` says that the history is valid.
-        let _ = self.ops();
+        self.recall_valid();
         match self.get(id) {
             Some(op) => sets_another(&op.change, value),
             None => false,
@@ -200,8 +192,7 @@ impl History {
     fn conflicts_with_table(&self, id: OpId, table: &[Option<Latest>; 6]) -> bool
         ensures { IsTrue result ↔ ConflictsWithTable self.now.ops table.now id }
     {
-        // The clause of `ops` says that the history is valid.
-        let _ = self.ops();
+        self.recall_valid();
         let Some(op) = self.get(id) else {
             return false;
         };

@@ -93,8 +93,7 @@ impl History {
         requires { IsInRange op.now }
         ensures { IsTrue result ↔ IsAimed self.now.ops op.now }
     {
-        // The clause of `ops` says that the history is valid.
-        let _ = self.ops();
+        self.recall_valid();
         self.may_aim(op) && self.are_directly_compatible(op.aim())
     }
 
@@ -117,8 +116,7 @@ impl History {
         requires { IsInRange op.now }
         ensures { IsTrue result ↔ MayAimAt self.now.ops op.now id }
     {
-        // The clause of `ops` says that the history is valid.
-        let _ = self.ops();
+        self.recall_valid();
         match self.get(id) {
             Some(member) => fits(member, op),
             None => false,
@@ -143,8 +141,7 @@ impl History {
         requires { IsInRange op.now }
         ensures { IsTrue result ↔ ConflictsAt self.now.ops op.now id }
     {
-        // The clause of `ops` says that the history is valid.
-        let _ = self.ops();
+        self.recall_valid();
         match self.get(id) {
             Some(member) => direct_conflict(op, member),
             None => false,

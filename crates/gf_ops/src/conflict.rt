@@ -64,8 +64,7 @@ fn member_conflicts(history: &History, id: OpId, b: &Op) -> bool
     requires { IsInRange b.now }
     ensures { IsTrue result ↔ MemberConflicts history.now.ops id b.now }
 {
-    // The clause of `ops` says that the history is valid.
-    let _ = history.ops();
+    history.recall_valid();
     match history.get(id) {
         Some(member) => conflicts_with_brought(history, member, b),
         None => false,

@@ -117,6 +117,13 @@ impl History {
         &self.ops
     }
 
+    /// Recalls that the history is valid. A caller takes no more of the call than its clause.
+    pub fn recall_valid(&self)
+        ensures { IsValid self.now.ops }
+    {
+        let _ = self.ops();
+    }
+
     /// Whether the operation may be added now, with the first of its faults. The check looks up the
     /// last known operation of each site, and the creation of the changed object. Each id of the
     /// aim costs fewer than thirty look-ups. An id whose operation has an aim of its own costs a

@@ -11,8 +11,8 @@ ghost use Rattle.gf_raster.specs.Shares.{cut};
 ghost use Rattle.gf_raster.specs.Columns.{AreColumns, HaveLines};
 ghost use Rattle.gf_raster.specs.Workers.{GivesAll};
 
+use gf_base::OutOfMemory;
 use gf_scanline::Stroke;
-use gf_shape::OutOfMemory;
 use std::alloc::Global;
 use std::thread;
 use std::thread::Threads;

@@ -10,8 +10,9 @@ use crate::crew::Crew;
 use crate::runs::all_runs;
 use crate::sharing::shared_band;
 use crate::tiles::TILE;
+use gf_base::OutOfMemory;
 use gf_scanline::{Band, Layers};
-use gf_shape::{OutOfMemory, Shape};
+use gf_shape::Shape;
 use std::thread::Threads;
 
 /// How many bands a worker paints in a round.

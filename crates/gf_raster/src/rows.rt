@@ -7,8 +7,9 @@ ghost use Rattle.gf_raster.specs.Rows.{AreRows, AreSharesOf, IsShareOf};
 use crate::Gate;
 use crate::crew::Crew;
 use crate::gathering::{all_of, joined};
+use gf_base::OutOfMemory;
 use gf_scanline::{Part, Strip, Stroke, Workspace};
-use gf_shape::{OutOfMemory, Shape};
+use gf_shape::Shape;
 use std::alloc::Global;
 use std::thread::Threads;
 

@@ -11,8 +11,9 @@ use crate::crew::Crew;
 use crate::gathering::all_of;
 use crate::pass::Pass;
 use crate::tiles::TILE;
+use gf_base::OutOfMemory;
 use gf_scanline::{Band, Layers, Strip, Workspace, fill};
-use gf_shape::{OutOfMemory, Shape};
+use gf_shape::Shape;
 use std::thread::Threads;
 
 /// The bytes of a round, of which each worker paints a run of whole bands.

@@ -10,8 +10,9 @@ use crate::gathering::gather;
 use crate::rows::found;
 use crate::shown_rows::ShownRows;
 use crate::tiles::columns;
+use gf_base::OutOfMemory;
 use gf_scanline::{Band, Layers};
-use gf_shape::{OutOfMemory, Shape};
+use gf_shape::Shape;
 use std::thread::Threads;
 
 /// The bytes of a band. Each worker finds what a share of its rows shows. Then each fills a run of

@@ -12,8 +12,8 @@ use crate::crew::Crew;
 use crate::gathering::all_of;
 use crate::pass::Pass;
 use crate::shown_rows::ShownRows;
+use gf_base::OutOfMemory;
 use gf_scanline::{Stroke, fill};
-use gf_shape::OutOfMemory;
 use std::alloc::Global;
 use std::thread::Threads;
 

@@ -48,7 +48,7 @@ pub message_gone : (messages seen : List Op) (m : ℕ) (r : Option (Bor Op)) →
 message_gone messages seen m r e l f = ap (λ ms. slice_get ms m) (sym e) ∙ sym l
     ∙ ap option_copied f
 
--- a clause under success gives one that follows
+-- where r is Ok, P gives Q
 pub ok_gives : {A E : Type 0} {P Q : Type 0} (r : Result A E) → (P → Q) → OnOk r P → OnOk r Q
 ok_gives (Ok v) f p = f p
 ok_gives (Err e) f p = tt

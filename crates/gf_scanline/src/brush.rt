@@ -4,7 +4,8 @@ ghost use Rattle.std.specs.Prelude.{◌≡◌, ◌++◌, IfOk, OnOk, length};
 ghost use Rattle.gf_plane.specs.declared.colour.Rgb.{Rgb};
 ghost use Rattle.gf_scanline.specs.Pixels.{pixels};
 
-use gf_shape::{OutOfMemory, Rgb};
+use gf_base::OutOfMemory;
+use gf_shape::Rgb;
 use std::alloc::Global;
 use std::marker::Model;
 

@@ -7,7 +7,8 @@ ghost use Rattle.gf_scanline.specs.Between.{IsWithinReach};
 ghost use Rattle.gf_scanline.specs.Telling.{contacts_at, crossings_at};
 
 use crate::Edge;
-use gf_shape::{OutOfMemory, meet};
+use gf_base::OutOfMemory;
+use gf_shape::meet;
 use gf_spans::{Meetings, Span};
 use std::alloc::Global;
 use std::marker::Model;

@@ -14,7 +14,8 @@ ghost use Rattle.gf_scanline.specs.Reaching.{IsAcross};
 ghost use Rattle.gf_scanline.specs.Telling.{TellsRow, crossings_at};
 
 use crate::{Edge, EdgeRow};
-use gf_shape::{Chain, OutOfMemory, Point};
+use gf_base::OutOfMemory;
+use gf_shape::{Chain, Point};
 use gf_spans::Span;
 use std::alloc::Global;
 use std::marker::Model;

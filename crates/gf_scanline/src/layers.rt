@@ -7,8 +7,9 @@ ghost use Rattle.gf_scanline.specs.Layers.{IsChainOf, IsLayer, layered};
 ghost use Rattle.gf_scanline.specs.Seen.{seen, seen_figure};
 
 use crate::{Brush, Layer};
+use gf_base::OutOfMemory;
 use gf_figures::{Drawing, Figure};
-use gf_shape::{Chain, OutOfMemory, Outline, Rgb, Shape};
+use gf_shape::{Chain, Outline, Rgb, Shape};
 use std::alloc::Global;
 use std::marker::Model;
 

@@ -10,7 +10,8 @@ ghost use Rattle.gf_scanline.specs.Pieces.{AreSeen, IsPiece, layers_of};
 use crate::piece::{Piece, piece_of};
 use crate::row::paint_pieces;
 use crate::{Band, Layer, Layers, Strip, Stroke, Workspace};
-use gf_shape::{OutOfMemory, Shape};
+use gf_base::OutOfMemory;
+use gf_shape::Shape;
 use std::alloc::Global;
 use std::marker::Model;
 

@@ -12,7 +12,8 @@ ghost use Rattle.gf_scanline.specs.Layers.{IsLayer};
 ghost use Rattle.gf_scanline.specs.Pieces.{IsPiece, IsUnseen, reaches};
 
 use crate::{Band, Columns, Edges, Layer, Workspace};
-use gf_shape::{Bounds, OutOfMemory, Shape, Span};
+use gf_base::OutOfMemory;
+use gf_shape::{Bounds, Shape, Span};
 use std::alloc::Global;
 
 /// What a band has of a layer: bounds, and the columns that it may be seen in. Of a polygon it has

@@ -12,7 +12,8 @@ ghost use Rattle.gf_scanline.specs.Pieces.{IsPiece, layers_of};
 
 use crate::piece::{Piece, reaches, spans};
 use crate::{Brush, Strip, Window, Workspace};
-use gf_shape::{OutOfMemory, Shape, Span};
+use gf_base::OutOfMemory;
+use gf_shape::{Shape, Span};
 
 /// Paints the pieces of row `j`, until no column is free.
 pub(crate) fn paint_pieces<'l, S: Shape>(

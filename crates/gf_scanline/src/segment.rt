@@ -7,7 +7,7 @@ ghost use Rattle.gf_scanline.specs.Segments.{AreSegmentsOf, views};
 ghost use Rattle.gf_scanline.specs.Strokes.{AreStrokesOf};
 
 use crate::{Brush, Columns, Stroke};
-use gf_shape::OutOfMemory;
+use gf_base::OutOfMemory;
 use std::alloc::Global;
 
 /// Columns in one colour.

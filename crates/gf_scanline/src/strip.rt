@@ -10,7 +10,7 @@ ghost use Rattle.gf_scanline.specs.Strokes.{AreStrokesOf};
 use crate::free_columns::FreeColumns;
 use crate::segment::{Segment, sort, strokes_of};
 use crate::{Brush, Columns, Stroke, Window};
-use gf_shape::OutOfMemory;
+use gf_base::OutOfMemory;
 use std::alloc::Global;
 use std::marker::Model;
 

@@ -6,7 +6,7 @@ ghost use Rattle.gf_scanline.specs.Pixels.{pixels};
 ghost use Rattle.gf_scanline.specs.Strokes.{AreStrokesFrom, AreStrokesOf, IsFirstEnding};
 
 use crate::Brush;
-use gf_shape::OutOfMemory;
+use gf_base::OutOfMemory;
 
 /// Columns in one colour: from where the stroke before this one ends, to before `to`.
 #[derive(Clone, Copy)]

@@ -52,9 +52,6 @@ empty_scripts_of n m scripts are some few = record {
   each = λ k s e. are.empty s (position_in scripts k s e);
 }
 
-pub fit_none : (n : ℕ) → Fit n []
-fit_none n = record { sites = λ l i. absurd (not_Contains-nil l i); few = λ s. omega arith }
-
 -- ---- one command more
 
 -- the commands of site s, with one for site t more

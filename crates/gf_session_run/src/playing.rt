@@ -9,11 +9,11 @@ ghost use Rattle.gf_session_run.specs.SessionSteps.{RefusesPlaying, RefusesTelli
 use crate::SessionRunError;
 use crate::reports::push_reports;
 use crate::scripts::read_scripts;
+use gf_base::OutOfMemory;
 use gf_fig_write::fig_bytes;
 use gf_gate::Gate;
 use gf_run::StudioError;
 use gf_session::{Done, SessionError, run_session};
-use gf_shape::OutOfMemory;
 use gf_site::Site;
 use gf_studio::draw_replica;
 use gf_worker::Script;

@@ -6,10 +6,10 @@ ghost use Rattle.gf_session_run.specs.SessionSteps.{GainsCommand, HasNoRoomAt, R
 ghost use Rattle.gf_session_run.specs.SessionSteps.{RefusesScripts};
 ghost use Rattle.gf_session_run.specs.SessionSteps.{TakesCommand, of_line};
 
+use gf_base::OutOfMemory;
 use gf_json::{Command, LineError, ScriptLine, read_script};
 use gf_replay::LineCause;
 use gf_run::StudioError;
-use gf_shape::OutOfMemory;
 use gf_streams::TextLines;
 use gf_worker::Script;
 use std::alloc::Global;

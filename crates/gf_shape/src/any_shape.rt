@@ -6,7 +6,8 @@ ghost use Rattle.gf_shape.specs.ShapeMoves.{any_movable, any_moved};
 ghost use Rattle.gf_shape.specs.Outlines.{any_outline};
 ghost use Rattle.gf_shape.specs.Laws.Shapes.{any_moves, any_outlines};
 
-use crate::{Bounds, Circle, Ellipse, OutOfMemory, Outline, Point, Polygon, Rect, Row, Shape};
+use crate::{Bounds, Circle, Ellipse, Outline, Point, Polygon, Rect, Row, Shape};
+use gf_base::OutOfMemory;
 use std::alloc::Global;
 
 /// A shape of any kind that a designer draws.

@@ -9,7 +9,8 @@ ghost use Rattle.gf_shape.specs.ShapeMoves.{points_movable, ring_moved};
 
 use crate::edges::path_holds;
 use crate::points::{all_movable, all_moved, bounds_from};
-use crate::{Bounds, OutOfMemory, Point, Row};
+use crate::{Bounds, Point, Row};
+use gf_base::OutOfMemory;
 use std::alloc::Global;
 use std::marker::Model;
 

@@ -9,7 +9,8 @@ ghost use Rattle.gf_shape.specs.ShapeMoves.{round_movable, round_moved};
 ghost use Rattle.gf_shape.specs.Laws.Shapes.{round_moves, round_outlines};
 
 use crate::disc::MOST_RADIUS;
-use crate::{Bounds, Disc, OutOfMemory, Outline, Point, Range, Row, Shape};
+use crate::{Bounds, Disc, Outline, Point, Range, Row, Shape};
+use gf_base::OutOfMemory;
 use std::alloc::Global;
 use std::marker::Model;
 

@@ -11,7 +11,8 @@ ghost use Rattle.gf_shape.specs.ShapeMoves.{round_movable, round_moved};
 
 use crate::around::{apart, high_corner, less, low_corner, more};
 use crate::products::{gap, product};
-use crate::{Bounds, OutOfMemory, Point, Row};
+use crate::{Bounds, Point, Row};
+use gf_base::OutOfMemory;
 use std::marker::Model;
 
 /// The greatest radius.

@@ -9,7 +9,8 @@ ghost use Rattle.gf_shape.specs.ShapeMoves.{oval_movable, oval_moved};
 ghost use Rattle.gf_shape.specs.Laws.Shapes.{oval_moves, oval_outlines};
 
 use crate::oval::is_radius;
-use crate::{Bounds, OutOfMemory, Outline, Oval, Point, Range, Row, Shape};
+use crate::{Bounds, Outline, Oval, Point, Range, Row, Shape};
+use gf_base::OutOfMemory;
 use std::alloc::Global;
 use std::marker::Model;
 

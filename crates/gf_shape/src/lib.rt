@@ -1,14 +1,15 @@
 //! Shapes over grid points: what each holds, its bounds, its moves and its outline.
 //!
-//! - [`Point`], [`Rgb`], [`Bounds`], [`Span`]: plain values; [`REACH`]: how far points lie. Points
-//!   and colours are those of `gf_plane`.
-//! - [`Row`]: the spans of a shape at one height, with memory for the next ones; [`meet`]: where an
-//!   edge meets it.
 //! - [`Shape`]: what every shape can do, and the laws that it keeps.
 //! - [`Rect`], [`Circle`], [`Ellipse`], [`Polygon`] and [`AnyShape`], which is one of these: what a
 //!   designer draws.
 //! - [`Outline`], which is a [`Chain`], a [`Disc`] or an [`Oval`]: what a FIG file draws.
-//! - [`Range`], [`OutOfMemory`], [`PolygonError`]: why a call was refused.
+//! - [`Bounds`]: the points from a low corner to a high one.
+//! - [`Row`]: the spans of a shape at one height, with memory for the next ones; [`meet`]: where an
+//!   edge meets it.
+//! - [`Range`], [`PolygonError`]: why a call was refused.
+//!
+//! Points and colours are those of `gf_plane`, spans those of `gf_spans`.
 #![tactic(auto)]
 
 mod any_shape;
@@ -36,7 +37,6 @@ pub use chain::Chain;
 pub use circle::Circle;
 pub use disc::Disc;
 pub use ellipse::Ellipse;
-pub use gf_base::OutOfMemory;
 pub use gf_plane::{Point, REACH, Rgb};
 pub use gf_spans::Span;
 pub use outline::Outline;

@@ -5,7 +5,8 @@ ghost use Rattle.gf_shape.specs.FigureMeaning.{outline_holds};
 ghost use Rattle.gf_shape.specs.ShapeMoves.{outline_movable, outline_moved};
 ghost use Rattle.gf_shape.specs.Laws.Shapes.{outline_moves};
 
-use crate::{Bounds, Chain, Disc, OutOfMemory, Oval, Point, Row, Shape};
+use crate::{Bounds, Chain, Disc, Oval, Point, Row, Shape};
+use gf_base::OutOfMemory;
 use std::alloc::Global;
 
 /// The outline of a figure, filled.

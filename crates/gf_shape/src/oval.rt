@@ -10,7 +10,8 @@ ghost use Rattle.gf_shape.specs.ShapeMoves.{oval_movable, oval_moved};
 use crate::around::{apart, high_corner, less, low_corner, more};
 use crate::disc::MOST_RADIUS;
 use crate::products::square;
-use crate::{Bounds, OutOfMemory, Point, Row};
+use crate::{Bounds, Point, Row};
+use gf_base::OutOfMemory;
 use std::marker::Model;
 
 /// The points of an ellipse with level axes round a centre.

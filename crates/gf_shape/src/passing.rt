@@ -10,7 +10,8 @@ ghost use Rattle.gf_shape.specs.RowParts.{crossings_along, crossings_of, passes,
 
 use crate::edges::climbs_past;
 use crate::products::gap;
-use crate::{OutOfMemory, Point, Span};
+use crate::{Point, Span};
+use gf_base::OutOfMemory;
 use gf_spans::{Crossing, Meetings};
 
 /// Adds where the edges of a path meet a row.

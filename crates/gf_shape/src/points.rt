@@ -6,7 +6,8 @@ ghost use Rattle.gf_shape.specs.BoundsOf.{bounds_from};
 ghost use Rattle.gf_plane.specs.Reach.{is_within_reach};
 ghost use Rattle.gf_shape.specs.ShapeMoves.{points_movable, points_moved};
 
-use crate::{Bounds, OutOfMemory, Point};
+use crate::{Bounds, Point};
+use gf_base::OutOfMemory;
 use std::alloc::Global;
 
 /// Whether each point lies within reach.

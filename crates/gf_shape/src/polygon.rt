@@ -13,7 +13,8 @@ ghost use Rattle.gf_shape.specs.ShapeMoves.{points_movable, points_moved};
 ghost use Rattle.gf_shape.specs.Laws.Shapes.{polygon_moves, polygon_outlines};
 
 use crate::points::all_within_reach;
-use crate::{Bounds, Chain, OutOfMemory, Outline, Point, PolygonError, Row, Shape};
+use crate::{Bounds, Chain, Outline, Point, PolygonError, Row, Shape};
+use gf_base::OutOfMemory;
 use std::alloc::Global;
 use std::marker::Model;
 

@@ -9,7 +9,8 @@ ghost use Rattle.gf_shape.specs.ShapeMoves.{rect_movable, rect_moved};
 ghost use Rattle.gf_shape.specs.Laws.Shapes.{rect_moves, rect_outlines};
 
 use crate::products::gap;
-use crate::{Bounds, Chain, OutOfMemory, Outline, Point, REACH, Range, Row, Shape};
+use crate::{Bounds, Chain, Outline, Point, REACH, Range, Row, Shape};
+use gf_base::OutOfMemory;
 use std::alloc::Global;
 use std::marker::Model;
 

@@ -7,7 +7,8 @@ ghost use Rattle.gf_shape.specs.RowParts.{end_of};
 ghost use Rattle.gf_shape.specs.Rows.{IsRow};
 
 use crate::passing::meet_along;
-use crate::{OutOfMemory, Point, Span};
+use crate::{Point, Span};
+use gf_base::OutOfMemory;
 use gf_spans::Meetings;
 use std::alloc::Global;
 use std::marker::Model;

@@ -6,7 +6,8 @@ ghost use Rattle.gf_plane.specs.declared.point.Point.{Point};
 ghost use Rattle.gf_shape.specs.Rows.{IsRow};
 ghost use Rattle.gf_shape.specs.ShapeLaws.{IsBounds, IsLawful, IsMovedBy, IsOutlineOf};
 
-use crate::{Bounds, OutOfMemory, Outline, Point, Row, Span};
+use crate::{Bounds, Outline, Point, Row, Span};
+use gf_base::OutOfMemory;
 use std::alloc::Global;
 
 /// A set of grid points that a designer can draw.

@@ -150,10 +150,6 @@ module _ {X : Type 0} (f : X → Op) (h : List Op) (a : Op) (setters near : List
 
 -- ---- who knew none of them
 
-pub none_unknowing : (h : List Op) (o : ObjectId) (seen : BTreeSet OpId) (a : Op)
-    → is_left_out seen a ≡ false → ¬ (IsUnknowing h o seen a)
-none_unknowing h o seen a n u = let t = u.left_out in absurd cc
-
 pub unknowing_told : {X : Type 0} (f : X → Op) (h : List Op) (o : ObjectId) (seen : BTreeSet OpId)
     (a : Op) (found : List X) → ((b : Op) → Contains (map f found) b ↔ HidesBeside h o a b)
     → is_left_out seen a ≡ true → (b : Bool) → b ≡ list_any (λ x. are_unordered a (f x)) found

@@ -65,8 +65,7 @@ fn differing_of(
     ensures { IfOk result (λ found. (o : _) → AreVisibleOn history.now.ops o groups.now
         → AreDifferences history.now.ops o attributes.now found.items) }
 {
-    // The clause of `ops` says that the history is valid.
-    let _ = history.ops();
+    history.recall_valid();
     let versions = settle_all(alloc, history, groups)?;
     let mut found = Vec::new(alloc);
     for attribute in attributes {
@@ -224,8 +223,7 @@ fn members<'h>(
     ensures { IfOk result (λ found. (a : Op) → Contains (map (λ r. r.now) found.items) a
         ↔ IsMember history.now.ops ids.now a) }
 {
-    // The clause of `ops` says that the history is valid.
-    let _ = history.ops();
+    history.recall_valid();
     let mut found = Vec::new(alloc);
     for id in ids {
         if let Some(op) = history.get(*id) {

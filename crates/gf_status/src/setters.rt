@@ -38,8 +38,7 @@ pub(crate) fn lasts<'h>(
     ensures { IfOk result (λ found.
         AreLastOf (map (λ a. a.now) ops.now) (map (λ a. a.now) found.items)) }
 {
-    // The clause of `ops` says that the history is valid.
-    let _ = history.ops();
+    history.recall_valid();
     let mut lasts = Vec::new(alloc);
     for op in ops {
         if !some_later(op, &lasts) {

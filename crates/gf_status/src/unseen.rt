@@ -119,8 +119,7 @@ fn hidings_beside<'h>(
         → AreSettersOn history.now.ops o (map (λ a. a.now) setters.now) → (b : Op)
         → Contains (map (λ a. a.now) found.items) b ↔ HidesBeside history.now.ops o op.now b) }
 {
-    // The clause of `ops` says that the history is valid.
-    let _ = history.ops();
+    history.recall_valid();
     if are_beside(history, last, op) {
         return hidings(alloc, last);
     }
@@ -152,8 +151,7 @@ fn is_unknowing(
         → AreSettersOn history.now.ops o (map (λ a. a.now) setters.now)
         → IsTrue answer ↔ IsUnknowing history.now.ops o seen.now op.now) }
 {
-    // The clause of `ops` says that the history is valid.
-    let _ = history.ops();
+    history.recall_valid();
     if !is_left_out(seen, op) {
         return Ok(false);
     }

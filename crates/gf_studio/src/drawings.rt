@@ -13,13 +13,14 @@ ghost use Rattle.gf_studio.specs.RefusedRuns.{RefusesLines};
 ghost use Rattle.gf_studio.specs.PaintRun.{IsMeant};
 ghost use Rattle.gf_run.specs.RunAnswers.{ReadsInput};
 
+use gf_base::OutOfMemory;
 use gf_drawing::{CompileFault, compile};
 use gf_fig_read::read_fig;
 use gf_figures::Drawing;
 use gf_listing::Versions;
 use gf_replay::read_replica;
 use gf_run::{StudioError, input};
-use gf_shape::{AnyShape, OutOfMemory, Outline};
+use gf_shape::{AnyShape, Outline};
 use gf_site::Replica;
 use gf_streams::Source;
 use gf_versions::{MOST_VERSIONS, Ranked};

@@ -8,6 +8,7 @@ ghost use Rattle.gf_studio.specs.RefusedParts.{RefusesQuery};
 ghost use Rattle.gf_studio.specs.RefusedRuns.{RefusesAnswer};
 ghost use Rattle.gf_run.specs.RunAnswers.{LeavesSink, ReadsInput};
 
+use gf_base::OutOfMemory;
 use gf_groups::GroupFault;
 use gf_inspect::{lines, object_lines, top_at_with, top_line, versions_with};
 use gf_json::Notation;
@@ -15,7 +16,7 @@ use gf_listing::Versions;
 use gf_ops::ObjectId;
 use gf_replay::read_replica;
 use gf_run::{Answer, StudioError, run};
-use gf_shape::{OutOfMemory, Point};
+use gf_shape::Point;
 use gf_site::Replica;
 use gf_streams::{Sink, Source};
 use std::alloc::Global;
@@ -26,9 +27,9 @@ use std::thread::Threads;
 pub enum Query {
     /// The versions of this object, hidden ones too, topmost first.
     Object(ObjectId),
-    /// Those of each object with several versions. The objects rise by id.
+    /// The versions of each object that has several. The objects rise by id.
     Several,
-    /// Those of each object. The objects rise by id.
+    /// The versions of each object. The objects rise by id.
     All,
     /// The version on top at this point.
     At(Point),

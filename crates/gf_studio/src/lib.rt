@@ -1,14 +1,15 @@
 //! Whole runs over bytes. A run makes operation lines a FIG text, a picture or lines of versions,
 //! or it makes a FIG text a picture.
 //!
-//! - [`fig_run`]: reads operation lines and writes the FIG text of their drawing; [`StudioError`]
-//!   with [`LineCause`] tells why not. It answers how many operations wait, as [`paint_run`] does.
+//! - [`fig_run`]: reads operation lines and writes the FIG text of their drawing. It answers how
+//!   many operations wait, as [`paint_run`] does.
 //! - [`named_fig_run`]: the same, with a comment before each figure that names it; [`NamedRun`]
 //!   tells also of polygons that xfig does not keep.
 //! - [`picture_run`]: reads operation lines or a FIG text, by its [`Format`], and writes a [`Picture`]
-//!   of an [`Extent`]: a [`Window`], or the one of a [`Frame`] that fits. [`Painted`] has the window.
+//!   of an [`Extent`]: a window, or one that fits a frame. [`Painted`] has the window.
 //! - [`paint_run`], [`repaint_run`]: the same of operation lines, and of a FIG text, in a window.
-//! - [`inspect_run`]: reads operation lines and writes what their history answers to a [`Query`].
+//! - [`inspect_run`]: reads operation lines and writes what their history answers to a [`Query`],
+//!   as an [`Inspection`] asks.
 //! - [`draw_replica`]: the drawing of a replica's history.
 //! - [`drawing_of_lines`], [`drawing_of_fig`]: the drawing that the bytes of a source denote; of
 //!   lines it is [`DrawnLines`], with how many operations wait.
@@ -20,11 +21,6 @@
 //!   history.
 //! - [`the_same_operations_fit_alike`], [`a_text_fits_as_its_history_does`]: the laws of windows that
 //!   fit.
-//!
-//! [`Source`], [`read_input`], [`MOST_INPUT_BYTES`], [`In`], [`Reel`], [`SourceFault`],
-//! [`InputError`] and [`TextLines`] come from `gf_streams`, [`Window`], [`Gate`] and [`OpenGate`]
-//! from `gf_raster`, [`Frame`] from `gf_fit`, [`LineCause`] from `gf_replay`, and [`StudioError`]
-//! from `gf_run`.
 #![tactic(auto)]
 
 mod drawings;
@@ -35,13 +31,6 @@ mod painting;
 mod runs;
 
 pub use drawings::{DrawnLines, draw_replica, drawing_of_fig, drawing_of_lines};
-pub use gf_fit::Frame;
-pub use gf_raster::{Gate, OpenGate, Window};
-pub use gf_replay::LineCause;
-pub use gf_run::StudioError;
-pub use gf_streams::{
-    In, InputError, MOST_INPUT_BYTES, Reel, Source, SourceFault, TextLines, read_input,
-};
 pub use inspecting::{Inspection, Query, inspect_run};
 pub use laws::{
     a_text_fits_as_its_history_does, a_text_is_repainted_as_its_history_is_painted,

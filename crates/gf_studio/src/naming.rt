@@ -48,8 +48,8 @@ pub fn named_fig_run<T: Threads + Sync, R: Source, W: Sink>(
         Exports bytes (W.taken sink.old) (W.taken sink.new))) }
     ensures text { OnOk result (IfSome (R.left source.old) (λ bytes.
         WritesNamed bytes (W.taken sink.old) (W.taken sink.new))) }
-    // So many operations wait behind that history, and its polygons that xfig does not keep are
-    // told.
+    // The answer tells how many operations wait behind that history, and which of its polygons xfig
+    // does not keep.
     ensures waiting { IfOk result (λ run. IfSome (R.left source.old) (λ bytes.
         HoldsBack bytes run.waiting)) }
     ensures thin { IfOk result (λ run. IfSome (R.left source.old) (λ bytes.

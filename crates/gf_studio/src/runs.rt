@@ -9,10 +9,10 @@ ghost use Rattle.gf_run.specs.RunAnswers.{LeavesSink, ReadsInput};
 
 use crate::drawings::draw;
 use crate::painting::{Extent, Format, Picture, picture_run};
+use gf_base::OutOfMemory;
 use gf_fig_write::fig_bytes;
 use gf_raster::{Gate, Window};
 use gf_run::{Answer, StudioError, run};
-use gf_shape::OutOfMemory;
 use gf_streams::{Sink, Source};
 use std::alloc::Global;
 use std::thread::Threads;
@@ -36,7 +36,7 @@ pub fn fig_run<T: Threads + Sync, R: Source, W: Sink>(
         Exports bytes (W.taken sink.old) (W.taken sink.new))) }
     ensures text { OnOk result (IfSome (R.left source.old) (λ bytes.
         Writes bytes (W.taken sink.old) (W.taken sink.new))) }
-    // So many operations wait behind that history.
+    // The answer is how many operations wait behind that history.
     ensures waiting { IfOk result (λ waiting. IfSome (R.left source.old) (λ bytes.
         HoldsBack bytes waiting)) }
 

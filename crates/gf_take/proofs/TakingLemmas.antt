@@ -75,18 +75,10 @@ module _ (s : ℕ) (h : List Op) (done : List Change) (x : SiteState) (new : Lis
     paints = subst (λ l. PaintsAsFig l d) has.ops paints;
   }
 
--- or for what was not made
+-- a change that was not made refuses the take
 pub not_made : (s : ℕ) (h : List Op) (changes : List Change) (d : DrawingState Outline)
     (e : TakeError) → RefusesAll s h changes e → RefusesTake s h changes d e
 not_made s h changes d (take.Refused why) r = r
 not_made s h changes d take.TooManyFigures r = absurd r
 not_made s h changes d take.Differs r = absurd r
 not_made s h changes d take.OutOfMemory r = tt
-
--- a site without a change to make shows too many
-pub shows_too_many : (s : ℕ) (h : List Op) → HasMoreVisible h 1000 → ShowsTooMany s h []
-shows_too_many s h more = record {
-  new = [];
-  makes = none;
-  more = subst (λ l. HasMoreVisible l 1000) (sym (append-nil h)) more;
-}

@@ -4,9 +4,10 @@ ghost use Rattle.std.specs.Prelude.{◌≡◌, ◌↔◌, IfOk, IsTrue};
 ghost use Rattle.gf_take.specs.Matching.{BecomeAlike, IsTraced};
 
 use crate::swapping::same_colour;
+use gf_base::OutOfMemory;
 use gf_figures::{Drawing, Figure};
 use gf_objects::{colour_of, form_of, place_of, same_form};
-use gf_shape::{OutOfMemory, Outline, Point, Rgb};
+use gf_shape::{Outline, Point, Rgb};
 use std::alloc::Global;
 
 /// Whether a version of this outline and colour looks like a figure of a drawing.

@@ -9,8 +9,9 @@ ghost use Rattle.gf_take.specs.Matching.{TakesLike, TakesNone};
 
 use crate::looks::looks;
 use crate::swapping::can_pass;
+use gf_base::OutOfMemory;
 use gf_figures::{Drawing, Figure};
-use gf_shape::{AnyShape, OutOfMemory, Outline, Rgb, Shape};
+use gf_shape::{AnyShape, Outline, Rgb, Shape};
 use gf_versions::Placed;
 use std::alloc::Global;
 

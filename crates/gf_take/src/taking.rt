@@ -13,10 +13,11 @@ ghost use Rattle.gf_take.specs.TakingSteps.{RefusesShowing};
 
 use crate::TakeError;
 use crate::matching::{is_like, look_alike, show_figures};
+use gf_base::OutOfMemory;
 use gf_figures::{Drawing, Figure};
 use gf_listing::Versions;
 use gf_ops::{Change, Op};
-use gf_shape::{AnyShape, OutOfMemory, Outline};
+use gf_shape::{AnyShape, Outline};
 use gf_site::{AuthorFault, Site};
 use gf_versions::{MOST_VERSIONS, Placed};
 use gf_visible::ranked_within;
@@ -37,7 +38,7 @@ pub fn take(
     ensures err { IfErr result (RefusesTake site.old.number site.old.ops changes.items
         drawing.now) }
 {
-    // Its clauses say that the base is accepted and valid.
+    // The clauses of `history` say that the base is accepted and valid.
     let _ = site.history();
     let ops = make_all(alloc, site, changes)?;
     show(alloc, site, drawing)?;

@@ -306,22 +306,6 @@ base_refused q m h k base fig d seen e mn kh there young is f =
     (base_refuses q k base fig d seen e there young is
     (subst (λ i. RefusesBase i q.after base fig d e) mn f))
 
--- why the drawing is refused for what it knew
-pub seen_refused : (q : TakeRequest) (h k : List Op) (fig : List ℕ) (d : Drawn) (seen : Clock)
-    (e : DrawingError) → k ≡ h → RefusesSeen q.site k seen e → RefusesDrawing q h fig d seen e
-seen_refused q h k fig d seen e kh f =
-    subst (λ (l : List Op). RefusesDrawing q l fig d seen e) kh (cases e f)
-  where
-    cases : (e : DrawingError) → RefusesSeen q.site k seen e → RefusesDrawing q k fig d seen e
-    cases (error.Absent i) f = f
-    cases (error.Older i j) f = f d
-    cases error.OutOfMemory f = absurd f
-    cases error.TooManyFigures f = absurd f
-    cases (error.Figure broken) f = absurd f
-    cases (error.Behind i) f = absurd f
-    cases error.Exhausted f = absurd f
-    cases error.Differs f = absurd f
-
 module _ (q : TakeRequest) (lines fig : List ℕ) (h : List Op) (read : DenotesLines q.site lines h)
     (drawing : Drawn) (seen : Clock) (drawn : DenotesDrawing fig drawing seen) where
   pub parts_taken : (t : TakenText) → TakesSo q h fig drawing seen t → TakesParts q lines fig t
@@ -356,17 +340,6 @@ module _ (q : TakeRequest) (lines fig : List ℕ) (h : List Op) (read : DenotesL
   parts_refused error.Exhausted f = both (HasBase q.site (IsExhausted q.site)) f
   parts_refused error.Differs f = both (HasBase q.site LooksOtherwise) f
   parts_refused error.OutOfMemory f = tt
-
--- why a drawing is not taken comes between the last read and the first write
-pub told_between : (e : DrawingError) → IfSome (of_take (told e)) IsBetween
-told_between error.OutOfMemory = tt
-told_between (error.Absent i) = tt
-told_between (error.Older i j) = tt
-told_between error.TooManyFigures = tt
-told_between (error.Figure broken) = tt
-told_between (error.Behind i) = tt
-told_between error.Exhausted = tt
-told_between error.Differs = tt
 
 -- ---- the whole text
 

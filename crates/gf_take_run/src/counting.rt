@@ -6,8 +6,8 @@ ghost use Rattle.gf_take_run.specs.CountedChanges.{test_of};
 ghost use Rattle.gf_take_run.specs.TakeSteps.{AreCounted};
 ghost use Rattle.gf_take_run.specs.ToldNumbers.{AreObjects, alters, creates, hides};
 
+use gf_base::OutOfMemory;
 use gf_ops::{Change, ObjectId, Op, Value};
-use gf_shape::OutOfMemory;
 use std::alloc::Global;
 
 /// How many objects operations change, hide and create.

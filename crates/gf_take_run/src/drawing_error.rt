@@ -5,8 +5,8 @@ ghost use Rattle.gf_take_run.specs.declared.drawing_error.DrawingError.TheVarian
 ghost use Rattle.gf_take_run.specs.TakeSteps.{told};
 
 use crate::{BrokenLimit, TakeRunError};
+use gf_base::OutOfMemory;
 use gf_ops::OpId;
-use gf_shape::OutOfMemory;
 
 /// Why nothing is taken of a drawing that was read, as [`TakeRunError`] tells it.
 #[derive(Clone, Copy)]

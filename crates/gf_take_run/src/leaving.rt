@@ -10,9 +10,10 @@ ghost use Rattle.gf_take_run.specs.LeavingSteps.{HasNoFigure, IsFigureAt, IsMean
 
 use crate::reading::ReadDrawing;
 use crate::showing::{has_version, is_of};
+use gf_base::OutOfMemory;
 use gf_fig_named::{Name, names_of};
 use gf_ops::{Change, Ids, ObjectId, Value};
-use gf_shape::{AnyShape, OutOfMemory};
+use gf_shape::AnyShape;
 use gf_site::Site;
 use gf_take::version_looks_like;
 use gf_versions::Placed;

@@ -44,7 +44,7 @@ pub(crate) fn make_from(
     ensures refused { IfErr result
         (RefusesBase base.old.number after base.old.ops fig.now drawn.now.drawing) }
 {
-    // Its clauses say that the base is accepted and valid.
+    // The clauses of `history` say that the base is accepted and valid.
     let _ = base.history();
     let shown = shown_by(alloc, base)?;
     if looks_like(alloc, &shown.versions, &drawn.drawing)? {

@@ -6,11 +6,11 @@ ghost use Rattle.gf_ops.specs.Limits.{IsInRange};
 ghost use Rattle.gf_ops.specs.declared.op.Op.{Op};
 ghost use Rattle.gf_take_run.specs.ShownText.{IsTextOf};
 
+use gf_base::OutOfMemory;
 use gf_drawing::CompileFault;
 use gf_fig_named::named_bytes;
 use gf_listing::Versions;
 use gf_ops::{History, Op};
-use gf_shape::OutOfMemory;
 use gf_table::IndexedHistory;
 use gf_versions::MOST_VERSIONS;
 use gf_visible::ranked_within;

@@ -4,7 +4,7 @@ ghost use Rattle.std.specs.Prelude.{◌≡◌, ℕ, IfNone, IfOk, IfSome};
 ghost use Rattle.gf_take_run.specs.Parting.{BeginsFig, IsParted};
 ghost use Rattle.gf_take_run.specs.PartingSteps.{IsFigStart};
 
-use gf_shape::OutOfMemory;
+use gf_base::OutOfMemory;
 use memchr::memchr;
 use std::alloc::Global;
 

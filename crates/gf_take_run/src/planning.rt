@@ -17,6 +17,7 @@ use crate::drawing_error::DrawingError;
 use crate::leaving::leave_standing;
 use crate::reading::ReadDrawing;
 use crate::showing::are_on_shown;
+use gf_base::OutOfMemory;
 use gf_changes::{
     Matching, Target, alterations, arranged, first_beyond, has_change, matched, object_not_shown,
     showing_again, versions_of,
@@ -29,7 +30,7 @@ use gf_inspect::versions_with;
 use gf_listing::Versions;
 use gf_objects::{object_of, start_fault, start_of};
 use gf_ops::{Change, ObjectId};
-use gf_shape::{AnyShape, OutOfMemory, Outline};
+use gf_shape::{AnyShape, Outline};
 use gf_site::{AuthorFault, Site};
 use gf_versions::{MOST_VERSIONS, Placed, Version};
 use gf_visible::ranked_within;
@@ -45,7 +46,7 @@ enum Plan {
 }
 
 /// The changes that a site, which shows these versions, is to make so that it shows the drawing.
-/// That they do is for the caller to check.
+/// The caller checks that it then does.
 pub(crate) fn changes_for(
     alloc: Global,
     base: &Site,

@@ -10,6 +10,7 @@ ghost use Rattle.gf_take_run.specs.TakeRun.{RefusesParts, of_take};
 ghost use Rattle.gf_take_run.specs.declared.request.TakeRequest.{TakeRequest};
 
 use crate::{TakeRequest, TakeRunError};
+use gf_base::OutOfMemory;
 use gf_changes::{Target, targets};
 use gf_edit::{EditError, check_waiting};
 use gf_fig_faults::drawing_faults;
@@ -20,7 +21,7 @@ use gf_objects::{start_fault, start_of};
 use gf_ops::Clock;
 use gf_replay::read_replica;
 use gf_run::StudioError;
-use gf_shape::{OutOfMemory, Outline};
+use gf_shape::Outline;
 use gf_site::Site;
 use gf_versions::MOST_VERSIONS;
 use std::alloc::Global;

@@ -12,11 +12,12 @@ ghost use Rattle.gf_take_run.specs.ShownItems.{HasLine, IsOnItem, IsOnOne};
 ghost use Rattle.gf_take_run.specs.TakeSteps.{RefusesBase};
 
 use crate::drawing_error::DrawingError;
+use gf_base::OutOfMemory;
 use gf_fig_named::thin_polygons;
 use gf_fig_tokens::cut_line;
 use gf_listing::Versions;
 use gf_ops::{Change, ObjectId, push_id};
-use gf_shape::{AnyShape, OutOfMemory};
+use gf_shape::AnyShape;
 use gf_site::Site;
 use gf_versions::{MOST_VERSIONS, Placed};
 use gf_visible::ranked_within;

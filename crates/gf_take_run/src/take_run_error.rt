@@ -5,10 +5,10 @@ ghost use Rattle.gf_run.specs.declared.studio_error.StudioError.TheVariants as s
 ghost use Rattle.gf_take_run.specs.declared.take_run_error.TakeRunError.TheVariants as refused;
 
 use crate::BrokenLimit;
+use gf_base::OutOfMemory;
 use gf_fig_faults::DrawingFaults;
 use gf_ops::OpId;
 use gf_run::StudioError;
-use gf_shape::OutOfMemory;
 use thiserror::Error;
 
 /// Why nothing is taken.

@@ -13,9 +13,10 @@ ghost use Rattle.gf_versions.specs.ListedVersions.{AreShown};
 
 use crate::shaping::shape_at;
 use crate::{Placed, Ranked, Version, settle};
+use gf_base::OutOfMemory;
 use gf_groups::Group;
 use gf_ops::History;
-use gf_shape::{AnyShape, OutOfMemory};
+use gf_shape::AnyShape;
 use std::alloc::Global;
 
 /// The greatest number of visible versions that a drawing takes, one for each depth of FIG.
@@ -57,8 +58,7 @@ fn shown(
     ensures shown { IfOk result (λ items. AreShown history.now.ops groups.now items.items) }
     ensures valid { IsValid history.now.ops }
 {
-    // The clause of `ops` says that the history is valid.
-    let _ = history.ops();
+    history.recall_valid();
     let mut items = Vec::new(alloc);
     for group in groups {
         let version = settle(alloc, history, group)?;

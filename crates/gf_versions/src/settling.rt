@@ -10,9 +10,9 @@ ghost use Rattle.gf_versions.specs.VersionOf.{IsVersionOf};
 
 use crate::giving::{colour, layer, place, points, sets, shown, size};
 use crate::{Version, VersionKey};
+use gf_base::OutOfMemory;
 use gf_groups::Group;
 use gf_ops::{Attr, Change, Form, History, Ids, Op, OpId, before};
-use gf_shape::OutOfMemory;
 use std::alloc::Global;
 
 /// The version of this group, each attribute with the value that its last setter gives it.
@@ -104,8 +104,7 @@ fn maker<'a>(history: &'a History, group: &Group) -> &'a Op
     ensures id { result.now.id ≡ group.now.object.0 }
     ensures valid { IsValid history.now.ops }
 {
-    // The clause of `ops` says that the history is valid.
-    let _ = history.ops();
+    history.recall_valid();
     match history.get(group.object.0) {
         Some(op) => op,
         None => unreachable!(),

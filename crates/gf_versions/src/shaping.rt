@@ -4,8 +4,9 @@ ghost use Rattle.std.specs.Prelude.{◌≡◌, IfOk, IsTrue};
 ghost use Rattle.gf_ops.specs.Limits.{is_form, is_near, is_polygon, is_size};
 ghost use Rattle.gf_versions.specs.Ranking.{form_at, origin, shape_of};
 
+use gf_base::OutOfMemory;
 use gf_ops::Form;
-use gf_shape::{AnyShape, Circle, Ellipse, OutOfMemory, Point, Polygon, PolygonError, Rect, Shape};
+use gf_shape::{AnyShape, Circle, Ellipse, Point, Polygon, PolygonError, Rect, Shape};
 use std::alloc::Global;
 
 /// The origin, from which no form is moved.

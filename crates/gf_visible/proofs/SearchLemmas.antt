@@ -232,7 +232,7 @@ module _ (all : List StepState) where
           ∙ (sym (append_assoc (answers all rest a) (answers all rest b) left)
           ∙ (ap (λ zs. zs ++ left) (sym ways_told) ∙ leads))
 
-  -- where the first way can't hold, only what is left goes on
+  -- the first way holds nothing, and only the second one is left
   pub turn_none : (f goal left : List (List ℕ)) (steps : List StepState) (a : List ℕ)
       → false ≡ all_hold all a → answers all steps a ++ left ≡ goal → f ++ left ≡ f ++ goal
   turn_none f goal left steps a n leads = ap (λ zs. f ++ zs)

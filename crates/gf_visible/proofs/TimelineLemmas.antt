@@ -29,11 +29,6 @@ pub none_meets : (g : List ℕ) → intersects [] g ≡ false
 none_meets [] = refl
 none_meets (a ∷ g) = none_meets g
 
--- where one number meets none, its row has it not
-pub past_rows : (rows : List (List ℕ)) → AreRows rows → (k j : ℕ) → row rows j ≡ []
-    → conflict rows k j ≡ false
-past_rows rows known k j e = known.symmetric k j ∙ ap (λ z. is_in z k) e
-
 -- ---- clocks
 
 -- the entries of what either clock knows

@@ -11,8 +11,8 @@ ghost use Rattle.gf_visible.specs.ClassSays.{covers, said};
 ghost use Rattle.gf_visible.specs.Seen.{seen, IsPartListing, IsSeenPart, MayBeMet};
 
 use crate::timeline::Timeline;
+use gf_base::OutOfMemory;
 use gf_maximal::{Numbers, meet};
-use gf_shape::OutOfMemory;
 use std::alloc::Global;
 use std::marker::Model;
 
@@ -32,7 +32,7 @@ impl Model for Partial {
 }
 
 impl Partial {
-    /// These classes with these sets.
+    /// The classes that were met, with their sets.
     pub(crate) fn new(met: Numbers, sets: Vec<Numbers>) -> Partial
         ensures { result ≡ record { met = met; sets = sets.items } }
     {

@@ -19,9 +19,9 @@ use crate::says::all_says;
 use crate::setters::set_of;
 use crate::showing_within;
 use crate::timeline::Timeline;
+use gf_base::OutOfMemory;
 use gf_maximal::{Classes, Numbers};
 use gf_ops::{History, ObjectId};
-use gf_shape::OutOfMemory;
 use std::alloc::Global;
 
 /// The sets that show, from those of the classes that were met first. No other class shows, or

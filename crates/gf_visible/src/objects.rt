@@ -8,10 +8,10 @@ ghost use Rattle.gf_visible.specs.ShownVersions.{AreVisibleOn, HasMoreOn};
 ghost use Rattle.gf_visible.specs.VisibleSoFar.{HaveVisibleOf, IsGroupListing};
 
 use crate::listing::shown_sets;
+use gf_base::OutOfMemory;
 use gf_groups::{Group, GroupFault, add_groups};
 use gf_listing::Versions;
 use gf_ops::{Change, ObjectId, Op};
-use gf_shape::OutOfMemory;
 use gf_versions::MOST_VERSIONS;
 use std::alloc::Global;
 

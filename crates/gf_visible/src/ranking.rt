@@ -8,10 +8,11 @@ ghost use Rattle.gf_versions.specs.declared.ranking.TheConstants.{MOST_VERSIONS}
 ghost use Rattle.gf_versions.specs.Ranking.{AreRanked};
 
 use crate::objects::{visible_made, visible_or_all};
+use gf_base::OutOfMemory;
 use gf_groups::Group;
 use gf_listing::Versions;
 use gf_ops::History;
-use gf_shape::{AnyShape, OutOfMemory};
+use gf_shape::AnyShape;
 use gf_table::{GroupTable, IndexedHistory};
 use gf_versions::{Ranked, ranked_of};
 use std::alloc::Global;

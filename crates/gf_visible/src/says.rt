@@ -5,10 +5,10 @@ ghost use Rattle.gf_ops.specs.OperationOrder as order;
 ghost use Rattle.gf_visible.specs.ClassSays.{hides, is_after, knows_some, known_in, no_clock};
 ghost use Rattle.gf_visible.specs.ClassSays.{raised, said, says_of, silent, with_op, with_said};
 
+use gf_base::OutOfMemory;
 use gf_classes::shown_by;
 use gf_maximal::Numbers;
 use gf_ops::{Clock, Op};
-use gf_shape::OutOfMemory;
 use std::alloc::Global;
 
 /// What the operations of a class say. Those that hide are of one site.

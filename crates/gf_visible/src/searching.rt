@@ -5,8 +5,8 @@ ghost use Rattle.gf_visible.specs.Choices.{all_hold, answers};
 ghost use Rattle.gf_visible.specs.PendingChoices.{all_answers, weight, weight_of};
 
 use crate::step::Step;
+use gf_base::OutOfMemory;
 use gf_maximal::Numbers;
-use gf_shape::OutOfMemory;
 use std::alloc::Global;
 use std::marker::Model;
 

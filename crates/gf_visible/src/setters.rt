@@ -10,8 +10,8 @@ ghost use Rattle.gf_visible.specs.Choices.{hiding_first, showing, step_of, steps
 
 use crate::searching::search;
 use crate::step::Step;
+use gf_base::OutOfMemory;
 use gf_maximal::Numbers;
-use gf_shape::OutOfMemory;
 use std::alloc::Global;
 
 /// What the operations at positions say of each other.

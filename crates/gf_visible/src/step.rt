@@ -4,8 +4,8 @@ ghost use Rattle.std.specs.Prelude.{◌≡◌, IfOk};
 ghost use Rattle.gf_maximal.specs.Growing.{intersects};
 ghost use Rattle.gf_visible.specs.Choices.{first, holds, second};
 
+use gf_base::OutOfMemory;
 use gf_maximal::Numbers;
-use gf_shape::OutOfMemory;
 use std::alloc::Global;
 use std::marker::Model;
 

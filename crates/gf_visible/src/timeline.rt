@@ -11,9 +11,9 @@ ghost use Rattle.gf_visible.specs.Seen.{seen};
 
 use crate::Showing;
 use crate::says::{Says, hides, is_after, known_in, knows_some, said};
+use gf_base::OutOfMemory;
 use gf_maximal::Numbers;
 use gf_ops::Clock;
-use gf_shape::OutOfMemory;
 use std::alloc::Global;
 use std::marker::Model;
 

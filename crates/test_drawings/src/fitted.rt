@@ -3,8 +3,9 @@
 
 use crate::named::lines;
 use gf_fit::{Frame, Range, Window};
+use gf_gate::OpenGate;
 use gf_streams::{Reel, Tape};
-use gf_studio::{Extent, Format, OpenGate, Picture, paint_run, picture_run, repaint_run};
+use gf_studio::{Extent, Format, Picture, paint_run, picture_run, repaint_run};
 use std::alloc::Global;
 use std::thread::Threads;
 use test_kit::{Answers, EMPTY_FIG};

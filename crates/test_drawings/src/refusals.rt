@@ -1,8 +1,9 @@
 //! The words of refusals.
 
+use gf_base::OutOfMemory;
 use gf_drawing::CompileFault;
 use gf_fig_read::{FigError, FigFault};
-use gf_shape::{OutOfMemory, PolygonError, Range};
+use gf_shape::{PolygonError, Range};
 use std::alloc::Global;
 use std::fmt::Display;
 use test_kit::Answers;

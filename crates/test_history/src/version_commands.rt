@@ -1,11 +1,12 @@
 //! Commands about the versions of a history: its groups, how they are ranked, what they look like,
 //! and aims at them.
 
+use gf_base::OutOfMemory;
 use gf_groups::{GroupFault, Groups};
 use gf_inspect::aimed_at;
 use gf_listing::{Versions, groups_of};
 use gf_ops::{Change, Form, History, ObjectId, OpId};
-use gf_shape::{AnyShape, Bounds, OutOfMemory, Point, Rgb, Shape};
+use gf_shape::{AnyShape, Bounds, Point, Rgb, Shape};
 use gf_table::IndexedHistory;
 use gf_versions::{Placed, Ranked, Version, VersionKey, settle};
 use gf_visible::ranked;

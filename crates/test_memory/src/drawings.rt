@@ -5,11 +5,12 @@ ghost use Rattle.std.specs.Prelude.{◌≡◌};
 
 use crate::examples::{MOVED, RED_BOX_MADE, is_text, red_box, site};
 use crate::trial::{Came, Marks};
+use gf_base::OutOfMemory;
 use gf_drawing::CompileFault;
 use gf_fig_read::{FigError, FigFault};
 use gf_fig_write::fig_bytes as text_of;
 use gf_figures::{Drawing, Figure};
-use gf_shape::{AnyShape, OutOfMemory, Outline, Rect, Shape};
+use gf_shape::{AnyShape, Outline, Rect, Shape};
 use gf_streams::{Tape, WriteError};
 use gf_visible::ranked;
 use std::alloc::Global;

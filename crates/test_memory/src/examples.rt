@@ -1,8 +1,9 @@
 //! What the worked examples begin with: sites with their histories, and what is told of them.
 
+use gf_base::OutOfMemory;
 use gf_groups::{Group, GroupFault, Groups};
 use gf_ops::OpId;
-use gf_shape::{OutOfMemory, Rect};
+use gf_shape::Rect;
 use gf_site::{Site, Step};
 use std::alloc::Global;
 use test_kit::at;

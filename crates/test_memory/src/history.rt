@@ -3,10 +3,10 @@
 
 use crate::examples::{BOX, RED_BOX_MADE, TWO_COLOURS, site};
 use crate::trial::{Came, Marks};
+use gf_base::OutOfMemory;
 use gf_causal::{Buffer, OfferFault, Offered};
 use gf_json::LineError;
 use gf_ops::{AddFault, History, Ids, Op, OpId};
-use gf_shape::OutOfMemory;
 use std::alloc::Global;
 use test_kit::RED_BOX;
 use test_kit::notation::operation;

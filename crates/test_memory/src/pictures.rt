@@ -1,10 +1,11 @@
 //! Trials of pictures: boxes as pixels and as PPM.
 
 use crate::trial::{Came, Marks};
+use gf_base::OutOfMemory;
 use gf_fig_read::read_fig;
 use gf_figures::Drawing;
 use gf_raster::{OpenGate, Raster, Window};
-use gf_shape::{OutOfMemory, Outline};
+use gf_shape::Outline;
 use gf_streams::{Tape, WriteError};
 use std::alloc::Global;
 use std::thread::Threads;

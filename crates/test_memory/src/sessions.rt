@@ -7,6 +7,7 @@ ghost use Rattle.gf_worker.specs.Peers.{IsFresh, StandsInTable};
 
 use crate::examples::BOX;
 use crate::trial::{Came, Marks};
+use gf_base::OutOfMemory;
 use gf_gate::OpenGate;
 use gf_json::{Command, LineError, ScriptLine, read_script};
 use gf_link::{Link, Message, SendSeat, TakeSeat, links, settle};
@@ -14,7 +15,6 @@ use gf_ops::{Change, Form, Op, OpId};
 use gf_session::{
     Cause, Done, Ends, Refused, Report, Script, SessionError, WorkerEnd, run_session, site_worker,
 };
-use gf_shape::OutOfMemory;
 use gf_site::Site;
 use gf_worker::Peer;
 use std::alloc::Global;

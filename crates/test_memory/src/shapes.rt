@@ -2,7 +2,8 @@
 
 use crate::examples::red_box;
 use crate::trial::{Came, Marks};
-use gf_shape::{OutOfMemory, Outline, Point, Polygon, PolygonError, Rect, Row, Shape, Span};
+use gf_base::OutOfMemory;
+use gf_shape::{Outline, Point, Polygon, PolygonError, Rect, Row, Shape, Span};
 use std::alloc::Global;
 use test_kit::at;
 

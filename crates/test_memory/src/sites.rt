@@ -6,11 +6,11 @@ ghost use Rattle.gf_table.specs.Standing.{StandsFor};
 
 use crate::examples::{BOX, TWO_COLOURS, are_groups, site};
 use crate::trial::{Came, Marks};
+use gf_base::OutOfMemory;
 use gf_causal::{OfferFault, Offered};
 use gf_listing::ListGroups;
 use gf_ops::{History, ObjectId, Op};
 use gf_replicas::{Event, World};
-use gf_shape::OutOfMemory;
 use gf_site::{AuthorFault, Site, Step};
 use gf_table::GroupTable;
 use std::alloc::Global;

@@ -4,12 +4,13 @@ ghost use Rattle.gf_groups.specs.Versions.{IsVersionGroup};
 
 use crate::examples::{BOX, RED_BOX_MADE, TWO_COLOURS, are_groups, are_told, is_text, site};
 use crate::trial::{Came, Marks};
+use gf_base::OutOfMemory;
 use gf_groups::{Group, GroupFault, is_made};
 use gf_inspect::VersionName;
 use gf_json::Notation;
 use gf_listing::{ListGroups, Versions};
 use gf_ops::{Change, History, ObjectId, OpId, Value};
-use gf_shape::{AnyShape, Bounds, OutOfMemory, Shape};
+use gf_shape::{AnyShape, Bounds, Shape};
 use gf_table::IndexedHistory;
 use gf_versions::{Placed, Ranked, Version};
 use std::alloc::Global;

@@ -5,9 +5,10 @@ ghost use Rattle.gf_shape.specs.ShapeMeaning.{rect_holds};
 ghost use Rattle.gf_shape.specs.ShapeMoves.{rect_movable, rect_moved};
 ghost use Rattle.gf_shape.specs.Laws.Shapes.{rect_moves, rect_outlines};
 
+use gf_base::OutOfMemory;
 use gf_figures::{Drawing, Figure};
 use gf_raster::{Gate, Window, paint};
-use gf_shape::{Bounds, OutOfMemory, Outline, Point, Rect, Row, Shape};
+use gf_shape::{Bounds, Outline, Point, Rect, Row, Shape};
 use std::alloc::Global;
 use std::marker::Model;
 use std::sync::atomic::AtomicUsize;

@@ -24,6 +24,6 @@ returns c =
     sets = rw c.new-groups.ensures.items at c.in_ok-add_groups.ensures in
     let moved : IsPermutation (map (group_at h c.args.object) sets) c.sort.new.groups.items =
     rw made at c.in_ok-sort.ensures.moved in
-    rw c.new.ensures (versions_sorted h c.ops.ensures.valid c.args.object us
+    rw c.new.ensures (versions_sorted h c.recall_valid.ensures c.args.object us
     (all_positions h c.args.object) (positions_on-rising h c.args.object) sets
     c.requires.table c.requires.made c.sort.new.groups.items moved c.in_ok-sort.ensures.sorted)

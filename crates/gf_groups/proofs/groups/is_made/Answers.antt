@@ -9,8 +9,8 @@ returns-in_default c = (
   λ t. absurd cc,
   λ m.
       let found = c.in-Some.ensures.found in
-      let one = same_op c.args.history.now.ops c.ops.ensures.valid m.made.maker c.in-Some.maker.now
-      m.made.contained found.0 (m.made.id ∙ sym found.1) in
+      let one = same_op c.args.history.now.ops c.recall_valid.ensures m.made.maker
+      c.in-Some.maker.now m.made.contained found.0 (m.made.id ∙ sym found.1) in
       let none : made_kind m.made.maker.change ≡ None = ap (λ (a : Op). made_kind a.change) one
       ∙ ap made_kind c.in_default.is in
       let some = m.made.kind in absurd cc,

@@ -3,7 +3,7 @@ use Rattle.gf_keep.proofs.aiming.aim_at.Goals as goal
 
 pub returns : goal.returns
 returns c =
-    aim_told c.args.history.now.ops c.ops.ensures.valid c.args.group.now c.args.others.now
+    aim_told c.args.history.now.ops c.recall_valid.ensures c.args.group.now c.args.others.now
     c.requires c.as_slice.result.now c.as_slice.ensures c.in_ok-marks.marks c.as_slice-2.result.now
     c.as_slice-2.ensures
     c.new-found.result.items c.new-found.ensures.items c.add_all.new.found.items c.deref.result.now

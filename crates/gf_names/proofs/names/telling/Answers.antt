@@ -12,7 +12,7 @@ loop-site-init c =
     subst (λ (s : List OpId). (i : OpId)
     → Contains s i ↔ ((i.site < 1) × Tells h c.args.members.now c.args.others.now i))
     (sym c.new-found.ensures.items)
-    (site_first h c.args.members.now c.args.others.now c.ops.ensures.valid)
+    (site_first h c.args.members.now c.args.others.now c.recall_valid.ensures)
 
 pub add_lasts-requires : goal.add_lasts-requires
 add_lasts-requires c = subst AreOfOneSite (sym (c.deref.ensures.value ∙ c.in_ok-own.ensures))
@@ -26,7 +26,7 @@ loop-site-preserved c =
 
 pub returns : goal.returns
 returns c =
-    site_last c.args.history.now.ops c.args.members.now c.args.others.now c.ops.ensures.valid
+    site_last c.args.history.now.ops c.args.members.now c.args.others.now c.recall_valid.ensures
     c.loop-site.found.items c.deref-2.result.now c.deref-2.ensures.value c.loop-site.site
     c.rising-2.result
     c.loop-site-test.false c.loop-site.invariant c.rising-2.ensures

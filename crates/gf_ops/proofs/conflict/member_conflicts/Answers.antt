@@ -5,7 +5,7 @@ pub returns-in-Some : goal.returns-in-Some
 returns-in-Some c =
     let f = c.in-Some.ensures.found in
     same_fact c.conflicts_with_brought.ensures
-    (brought_found c.args.history.now.ops c.ops.ensures.valid
+    (brought_found c.args.history.now.ops c.recall_valid.ensures
     c.in-Some.member.now f.0 c.args.id f.1 c.args.b.now)
 
 pub returns-in-None : goal.returns-in-None

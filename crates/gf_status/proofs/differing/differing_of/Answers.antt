@@ -15,7 +15,7 @@ loop-attribute-init c = λ o all. rw c.new-found.ensures.items none
 pub loop-attribute-preserved : goal.loop-attribute-preserved
 loop-attribute-preserved c = λ o all.
     let h = c.args.history.now.ops in
-    let valid = c.ops.ensures.valid in
+    let valid = c.recall_valid.ensures in
     let groups = c.args.groups.now in
     let ts = c.args.attributes.now in
     let n = c.loop-attribute.attribute-index in

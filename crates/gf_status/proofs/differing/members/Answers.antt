@@ -18,7 +18,7 @@ loop-id-preserved c =
     rw (take_more ids n no_id c.loop-id-test.true) (elim c.match-get.branch [
       | in-Some+in_ok-push w ↦
           rw (w.found-is, w.in_ok-push.ensures.items)
-          (under_more now h c.ops.ensures.valid (take n ids) us (get_or ids n no_id) w.in-Some.op
+          (under_more now h c.recall_valid.ensures (take n ids) us (get_or ids n no_id) w.in-Some.op
           c.loop-id.invariant w.in-Some.ensures.found.0 w.in-Some.ensures.found.1)
       | in_default w ↦ rw w.found-is (under_same now h (take n ids) us (get_or ids n no_id)
           c.loop-id.invariant w.in_default.ensures.none)

@@ -12,7 +12,7 @@ pub some_later-requires-clause-op : goal.some_later-requires-clause-op
 some_later-requires-clause-op c =
     let h = c.args.history.now.ops in
     let x = c.op-item.result in
-    c.ops.ensures.valid.in_range x.now
+    c.recall_valid.ensures.in_range x.now
     (item_of h now c.args.ops.now c.loop-op.op-index x c.requires
     c.loop-op-test.true c.op-item.is)
 
@@ -21,7 +21,8 @@ some_later-requires-clause-others c =
     let h = c.args.history.now.ops in
     let xs = c.loop-op.lasts.items in
     rw c.deref.ensures.value
-    (all_in_range h c.ops.ensures.valid now xs (lasts_of h c.ops.ensures.valid now c.args.ops.now xs
+    (all_in_range h c.recall_valid.ensures now xs
+    (lasts_of h c.recall_valid.ensures now c.args.ops.now xs
     c.loop-op.op-index c.op-item.result c.loop-op-test.true c.op-item.is c.requires
     c.loop-op.invariant))
 
@@ -29,7 +30,7 @@ pub not_before-requires-clause-op : goal.not_before-requires-clause-op
 not_before-requires-clause-op c =
     let h = c.args.history.now.ops in
     let x = c.op-item.result in
-    c.ops.ensures.valid.in_range x.now
+    c.recall_valid.ensures.in_range x.now
     (item_of h now c.args.ops.now c.loop-op.op-index x c.requires
     c.loop-op-test.true c.op-item.is)
 
@@ -38,7 +39,8 @@ not_before-requires-clause-others c =
     let h = c.args.history.now.ops in
     let xs = c.loop-op.lasts.items in
     rw c.deref-then-not-some_later.ensures.value
-    (all_in_range h c.ops.ensures.valid now xs (lasts_of h c.ops.ensures.valid now c.args.ops.now xs
+    (all_in_range h c.recall_valid.ensures now xs
+    (lasts_of h c.recall_valid.ensures now c.args.ops.now xs
     c.loop-op.op-index c.op-item.result c.loop-op-test.true c.op-item.is c.requires
     c.loop-op.invariant))
 
@@ -53,13 +55,13 @@ loop-op-preserved c =
     elim c.if-not-some_later.branch [
       | then-not-some_later+in_ok-lasts+in_ok-push w ↦
           rw (w.lasts-is, w.in_ok-push.ensures.items)
-          (last_added h c.ops.ensures.valid now c.args.ops.now xs n x c.loop-op-test.true
+          (last_added h c.recall_valid.ensures now c.args.ops.now xs n x c.loop-op-test.true
           c.op-item.is c.requires c.loop-op.invariant
           (sym test ∙ w.if-not-some_later.true) w.in_ok-lasts.lasts.items
           (w.in_ok-lasts.ensures ∙ ap (filter (λ y. not (is_before (now y) (now x))))
           w.deref-then-not-some_later.ensures.value))
       | else-not-some_later w ↦
           rw w.lasts-is
-          (last_passed h c.ops.ensures.valid now c.args.ops.now xs n x c.loop-op-test.true
+          (last_passed h c.recall_valid.ensures now c.args.ops.now xs n x c.loop-op-test.true
           c.op-item.is c.requires c.loop-op.invariant (sym test ∙ w.if-not-some_later.false))
     ]

@@ -9,11 +9,11 @@ use Rattle.gf_status.proofs.UnseenLemmas.{hidings_near, hidings_within, last_nea
 use Rattle.gf_status.proofs.unseen.hidings_beside.Goals as goal
 
 pub are_beside-requires-clause-others : goal.are_beside-requires-clause-others
-are_beside-requires-clause-others c = all_in_range c.args.history.now.ops c.ops.ensures.valid now
+are_beside-requires-clause-others c = all_in_range c.args.history.now.ops c.recall_valid.ensures now
     c.args.last.now (λ a i. c.requires.setters a (c.requires.last.within a i))
 
 pub beside-requires-clause-others : goal.beside-requires-clause-others
-beside-requires-clause-others c = all_in_range c.args.history.now.ops c.ops.ensures.valid now
+beside-requires-clause-others c = all_in_range c.args.history.now.ops c.recall_valid.ensures now
     c.args.setters.now c.requires.setters
 
 pub lasts-requires : goal.lasts-requires

@@ -7,7 +7,7 @@ use Rattle.gf_status.proofs.unseen.is_unknowing.Goals as goal
 
 pub some_unordered-requires-clause-others : goal.some_unordered-requires-clause-others
 some_unordered-requires-clause-others c =
-    rw c.deref.ensures.value (all_in_range c.args.history.now.ops c.ops.ensures.valid now
+    rw c.deref.ensures.value (all_in_range c.args.history.now.ops c.recall_valid.ensures now
     c.in_ok-hidings.hidings.items c.in_ok-hidings.ensures.within)
 
 pub returns : goal.returns

@@ -13,7 +13,8 @@ pub settle-requires : goal.settle-requires
 settle-requires c = c.requires c.group-item.result (search rules)
 
 pub placed-requires : goal.placed-requires
-placed-requires c = version_fits c.args.history.now.ops c.ops.ensures.valid c.in_ok-version.version
+placed-requires c =
+    version_fits c.args.history.now.ops c.recall_valid.ensures c.in_ok-version.version
     c.in_ok-version.ensures.version
 
 pub loop-group-init : goal.loop-group-init
