@@ -28,3 +28,9 @@ ring_from boxed ps n len least most box closed reach = record {
   closed = same _ _ closed;
   reach = reach;
 }
+
+pub within_pushed : (ps : List Point) (p : Point) → All (λ q. IsTrue (is_within_reach q)) ps
+    → IsTrue (is_within_reach p) → All (λ q. IsTrue (is_within_reach q)) (ps ++ p ∷ [])
+within_pushed ps p h k =
+    let Q : Point → Type 0 = λ q. IsTrue (is_within_reach q) in
+    All-append Q ps (p ∷ []) h (All-cons Q p [] k (All-nil Q))
