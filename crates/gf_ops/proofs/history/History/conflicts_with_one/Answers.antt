@@ -4,7 +4,7 @@ use Rattle.gf_ops.proofs.history.History.conflicts_with_one.Goals as goal
 pub returns-in-Some : goal.returns-in-Some
 returns-in-Some c =
     let f = c.in-Some.ensures.found in
-    same_fact c.direct_conflict.ensures (conflict_found c.args.self.now.ops c.ops.ensures.valid
+    same_fact c.direct_conflict.ensures (conflict_found c.args.self.now.ops c.recall_valid.ensures
     c.in-Some.member.now f.0 c.args.id f.1 c.args.op.now)
 
 pub returns-in-None : goal.returns-in-None

@@ -9,13 +9,13 @@ returns-in_default c = never (λ q. c.in_default.ensures.none q.op q.contained q
 pub returns-in_default-change : goal.returns-in_default-change
 returns-in_default-change c =
     let found = c.in-Some.ensures.found in
-    never (made_conflicts c.args.self.now.ops c.ops.ensures.valid c.args.table.now c.in-Some.op.now
-    found.0 c.args.id found.1 c.in_default-change.field-0 c.in_default-change.is)
+    never (made_conflicts c.args.self.now.ops c.recall_valid.ensures c.args.table.now
+    c.in-Some.op.now found.0 c.args.id found.1 c.in_default-change.field-0 c.in_default-change.is)
 
 pub returns-then-conflicts_with_one : goal.returns-then-conflicts_with_one
 returns-then-conflicts_with_one c =
     let found = c.in-Some.ensures.found in
-    let told = some_conflicts c.args.self.now.ops c.ops.ensures.valid c.args.table.now
+    let told = some_conflicts c.args.self.now.ops c.recall_valid.ensures c.args.table.now
     c.in-Some.op.now
     found.0 c.args.id found.1 c.in-Set.object c.in-Set.value c.in-Set.aim c.in-Set.is
     c.index_of.result c.index_of.ensures.value c.in-Some-table.latest c.in-Some-table.is in
@@ -24,7 +24,7 @@ returns-then-conflicts_with_one c =
 pub returns-else-conflicts_with_one : goal.returns-else-conflicts_with_one
 returns-else-conflicts_with_one c =
     let found = c.in-Some.ensures.found in
-    let told = some_conflicts c.args.self.now.ops c.ops.ensures.valid c.args.table.now
+    let told = some_conflicts c.args.self.now.ops c.recall_valid.ensures c.args.table.now
     c.in-Some.op.now
     found.0 c.args.id found.1 c.in-Set.object c.in-Set.value c.in-Set.aim c.in-Set.is
     c.index_of.result c.index_of.ensures.value c.in-Some-table.latest c.in-Some-table.is in (
@@ -39,6 +39,7 @@ returns-else-conflicts_with_one c =
 pub returns-in-None : goal.returns-in-None
 returns-in-None c =
     let found = c.in-Some.ensures.found in
-    never (none_conflicts c.args.self.now.ops c.ops.ensures.valid c.args.table.now c.in-Some.op.now
+    never (none_conflicts c.args.self.now.ops c.recall_valid.ensures c.args.table.now
+    c.in-Some.op.now
     found.0 c.args.id found.1 c.in-Set.object c.in-Set.value c.in-Set.aim c.in-Set.is
     c.index_of.result c.index_of.ensures.value c.in-None.is)

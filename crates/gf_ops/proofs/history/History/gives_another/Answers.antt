@@ -15,7 +15,7 @@ returns-in-Some c =
         another = sym c.sets_another.ensures ∙ t;
       },
       λ g.
-          let same = same_op c.args.self.now.ops c.ops.ensures.valid g.op c.in-Some.op.now
+          let same = same_op c.args.self.now.ops c.recall_valid.ensures g.op c.in-Some.op.now
           g.contained found.0 (g.id ∙ sym found.1) in
           c.sets_another.ensures ∙ subst (λ (z : Op). sets_another z.change c.args.value.now ≡ true)
           same g.another,

@@ -10,5 +10,5 @@ are_directly_compatible-requires-clause-rising c = rw c.aim.ensures
 pub are_directly_compatible-requires-clause-object :
     goal.are_directly_compatible-requires-clause-object
 are_directly_compatible-requires-clause-object c = rw c.aim.ensures
-    (aimed_on_one c.args.self.now.ops c.ops.ensures.valid c.args.op.now
+    (aimed_on_one c.args.self.now.ops c.recall_valid.ensures c.args.op.now
     (c.may_aim.ensures.0 c.if-may_aim.true))

@@ -7,7 +7,7 @@ pub returns-in-Some : goal.returns-in-Some
 returns-in-Some c =
     let site : c.args.by.site ≡ c.args.site = search rules in
     let found = c.in-Some.ensures.found in
-    knew_told c.args.self.now.ops c.ops.ensures.valid c.in-Some.op.now found.0 c.args.by found.1
+    knew_told c.args.self.now.ops c.recall_valid.ensures c.in-Some.op.now found.0 c.args.by found.1
     c.args.site site c.args.id c.from.result c.from.ensures
 
 pub returns-in-None : goal.returns-in-None

@@ -14,7 +14,7 @@ returns-in_err-value-clause-none c =
 pub returns-in-Create-clause-none : goal.returns-in-Create-clause-none
 returns-in-Create-clause-none c = λ s.
     let found = c.in_ok-value.ensures.found in
-    let same = same_op c.args.self.now.ops c.ops.ensures.valid s.at.op c.in_ok-value.field-0.now
+    let same = same_op c.args.self.now.ops c.recall_valid.ensures s.at.op c.in_ok-value.field-0.now
     s.at.contained found.0 (s.at.id ∙ sym found.1) in
     let e : Set s.at.sets.object s.value s.at.sets.aim ≡ Create c.in-Create.field-0 = sym
     s.at.sets.is ∙ (ap (λ (z : Op). z.change) same ∙ c.in-Create.is) in absurd cc
