@@ -10,6 +10,7 @@ use Rattle.std.proofs.lemmas.List.{append-nil, take_more}
 use Rattle.std.proofs.lemmas.List.Elements.{Contains-push_cases}
 use Rattle.gf_base.proofs.ListLemmas.{not_Contains-nil}
 use Rattle.gf_ops.specs.declared.op.Op.{Op}
+use Rattle.gf_ops.specs.declared.op.ObjectId.{ObjectId}
 use Rattle.gf_ops.specs.declared.op.OpId.{OpId}
 use Rattle.gf_ops.specs.Accepted.{AreAccepted}
 use Rattle.gf_json.specs.OperationLines.{denoted}
@@ -30,7 +31,8 @@ use Rattle.gf_ops.specs.declared.op.Clock.{Clock}
 use Rattle.gf_ops.specs.declared.change.Change.{Change}
 use Rattle.gf_fig_named.specs.ThinPolygons.{AreThinOf}
 use Rattle.gf_fig_read.specs.Objects.{Drawn}
-use Rattle.gf_run.specs.Answers.{Refuses}
+use Rattle.gf_run.specs.Answers.{GivesText, Refuses, WritesAnswer}
+use Rattle.gf_run.specs.RunAnswers.{WritesPrefix}
 use Rattle.gf_run.specs.RefusedRuns.{IsOfRun}
 use Rattle.gf_site.specs.MadeEach.{MakesEach, next as each_next, none as each_none}
 use Rattle.gf_take.specs.Bases.{IsBase}
@@ -58,8 +60,8 @@ use Rattle.gf_take_run.specs.Parting.{IsParted}
 use Rattle.gf_take_run.specs.SeenDrawing.{AreThere, IsAbsent, IsNewer, since_drawing}
 use Rattle.gf_take_run.specs.TakenText.{DenotesDrawing, DenotesLines}
 use Rattle.gf_take_run.specs.TakeRun.{GoesBeyond, HasBase, HasBlockingLine, HasNewer, IsExhausted}
-use Rattle.gf_take_run.specs.TakeRun.{IsBehind, LooksOtherwise, ReadsBoth, ShowsMany}
-use Rattle.gf_take_run.specs.TakeRun.{StaysWithin}
+use Rattle.gf_take_run.specs.TakeRun.{IsBehind, IsTakeOf, LooksOtherwise, ReadsBoth, ShowsMany}
+use Rattle.gf_take_run.specs.TakeRun.{StaysWithin, WritesTake}
 use Rattle.gf_take_run.specs.TakeRun.{RefusesParts, RefusesTaking, TakesText, of_take, input, parts}
 use Rattle.gf_take_run.specs.TakeSteps.{AreListed, AreWritten, IsBeyondMost, IsWrittenText}
 use Rattle.gf_take_run.specs.TakeSteps.{MakesBehind, MakesFrom, MakesOther, RefusesBase}
@@ -247,6 +249,23 @@ plan_refuses s after b fig d (error.Absent i) other f = absurd f
 plan_refuses s after b fig d (error.Older i j) other f = absurd f
 plan_refuses s after b fig d (error.Behind i) other f = absurd f
 
+-- what is made of a drawing that the base does not look like
+pub other_taken : (s : ℕ) (after : Option ℕ) (b : List Op) (fig : List ℕ) (d : Drawn)
+    (thin : Vec ObjectId Global) (r : Result MadeFrom DrawingError) → ¬ (LooksLike b d)
+    → IfSome after (λ n. count_of b s ≤ n) → AreThinOf b thin.items
+    → IfOk r (MakesOther s b fig d) → IfOk r (λ made. made.thin ≡ thin)
+    → IfOk r (MakesFrom s after b fig d)
+other_taken s after b fig d thin (Ok made) other few are o same =
+    takes_changes s after b fig d made other few o
+    (subst (λ (ids : Vec ObjectId Global). AreThinOf b ids.items) (sym same) are)
+other_taken s after b fig d thin (Err e) other few are o same = tt
+
+pub other_refused : (s : ℕ) (after : Option ℕ) (b : List Op) (fig : List ℕ) (d : Drawn)
+    (r : Result MadeFrom DrawingError) → ¬ (LooksLike b d) → IfErr r (RefusesPlan s b fig d)
+    → IfErr r (RefusesBase s after b fig d)
+other_refused s after b fig d (Ok made) other f = tt
+other_refused s after b fig d (Err e) other f = plan_refuses s after b fig d e other f
+
 -- why the base makes nothing is why nothing is taken behind it
 base_refuses : (q : TakeRequest) (h base : List Op) (fig : List ℕ) (d : Drawn) (seen : Clock)
     (e : DrawingError) → AreThere seen h → ((a x : Op) → ¬ (IsNewer q.site seen h a x))
@@ -388,3 +407,38 @@ module _ (Gives : Vec ℕ Global → Result (Answer Taken) TakeRunError → Type
   run_refuses (Some bytes) (Err e) (inl f) =
       subst (λ b. RefusesTaking q b e) f.bytes_are (given f.given e f.gives)
   run_refuses (Some bytes) (Err e) (inr f) = of_any_run q bytes e f
+
+-- Gives relates bytes to what a take makes of them
+module _ (Gives : Vec ℕ Global → Result (Answer Taken) TakeRunError → Type 0) (q : TakeRequest)
+    (given : (g : Vec ℕ Global) (a : Answer Taken) → Gives g (Ok a)
+    → TakesText q g.items a.text.items a.value) where
+  pub run_takes : (left old new : Option (List ℕ)) (r : Result Taken TakeRunError)
+      → IfOk r (λ taken. WritesAnswer Gives left taken old new)
+      → IfOk r (λ taken. IfSome left (λ bytes. WritesTake q bytes taken old new))
+  run_takes left old new (Err e) w = tt
+  run_takes None old new (Ok taken) w = tt
+  run_takes (Some bytes) old new (Ok taken) w = record {
+    text = w.answer.text.items;
+    is = subst (λ b. TakesText q b w.answer.text.items taken) w.bytes_are
+        (subst (λ v. TakesText q w.given.items w.answer.text.items v) w.value_is
+        (given w.given w.answer w.gives));
+    written = w.written;
+  }
+
+  -- a prefix of what is given is one of what is taken
+  pub run_prefix : (left old new : Option (List ℕ))
+      → IfSome left (λ bytes. WritesPrefix (GivesText Gives bytes) old new)
+      → IfSome left (λ bytes. WritesPrefix (IsTakeOf q bytes) old new)
+  run_prefix None old new p = tt
+  run_prefix (Some bytes) old new p =
+      let a = p.is.answer in
+      record {
+        text = p.text;
+        is = (
+          a.value,
+          subst (λ b. TakesText q b p.text a.value) p.is.bytes_are
+              (subst (λ t. TakesText q p.is.given.items t a.value) p.is.text_is
+              (given p.is.given a p.is.gives)),
+        );
+        written = p.written;
+      }

@@ -67,20 +67,20 @@ pub record TakesFrom (s : ℕ) (after : Option ℕ) (b : List Op) (fig : List �
   pub same : LooksLike b drawing → new ≡ []
   pub within : StaysWithin s after b new
 
--- the ranked versions are the visible ones of h, no more than a drawing has
-pub record AreListed (h : List Op) (ranked : Ranked AnyShape) : Type 0 where
-  pub ranked : AreRanked h ranked.items.items
-  pub few : length ranked.items.items ≤ MOST_VERSIONS
+-- shown are the visible versions of h, ranked, and no more than a drawing has
+pub record AreListed (h : List Op) (shown : Ranked AnyShape) : Type 0 where
+  pub ranked : AreRanked h shown.items.items
+  pub few : length shown.items.items ≤ MOST_VERSIONS
 
 -- site s made the operations of m behind its base b
 pub record IsMaking (s : ℕ) (b : List Op) (m : Making) : Type 0 where
   pub changes : List Change
   pub made : HasMade s b changes m.site m.ops.items
 
--- old becomes new, and shows the ranked versions; without any nothing was made
+-- old becomes new, and shows these versions; without any nothing was made
 abbrev pub AreListedBehind : Making → Making → Option (Ranked AnyShape) → Type 0
 AreListedBehind old new None = new ≡ old
-AreListedBehind old new (Some ranked) = AreListed new.site.ops ranked
+AreListedBehind old new (Some shown) = AreListed new.site.ops shown
 
 -- behind the base b, which site s has, what was made shows the drawing
 pub record MakesOther (s : ℕ) (b : List Op) (fig : List ℕ) (drawing : Drawn) (made : MadeFrom)

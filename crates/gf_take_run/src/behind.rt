@@ -73,15 +73,18 @@ fn shown_whole(alloc: Global, made: MadeFrom, named: bool) -> Result<MadeBehind,
     ensures thin { IfOk result (λ whole. whole.thin ≡ made.thin) }
     ensures text { IfOk result (λ whole. IsShownText named made.site.ops whole.text.items) }
 {
-    let mut text = Vec::new(alloc);
-    if named {
-        text = named_text(alloc, made.site.history(), made.shown)?;
-    }
-    Ok(MadeBehind {
-        ops: made.ops,
-        thin: made.thin,
-        text,
-    })
+    let MadeFrom {
+        site,
+        ops,
+        shown,
+        thin,
+    } = made;
+    let text = if named {
+        named_text(alloc, site.history(), shown)?
+    } else {
+        Vec::new(alloc)
+    };
+    Ok(MadeBehind { ops, thin, text })
 }
 
 /// The named text of a site with these operations behind its own, where it is asked for.

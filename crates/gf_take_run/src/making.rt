@@ -78,32 +78,31 @@ fn make_other(
     ensures refused { IfErr result
         (RefusesPlan base.number base.ops fig.now drawn.now.drawing) }
 {
-    let names = names_of(alloc, base.history(), &shown.versions.items)?;
+    let Shown { versions, thin } = shown;
+    let names = names_of(alloc, base.history(), &versions.items)?;
     let mut making = Making {
         site: base,
         ops: Vec::new(alloc),
     };
-    let last = make_planned(alloc, &mut making, fig, &shown.versions.items, drawn)?;
-    if !are_on_shown(alloc, fig, &making.ops, &shown.versions.items)? {
+    let last = make_planned(alloc, &mut making, fig, &versions.items, drawn)?;
+    if !are_on_shown(alloc, fig, &making.ops, &versions.items)? {
         return Err(DrawingError::Differs);
     }
-    if !leave_standing(alloc, &shown.versions.items, &names, drawn, &making.ops)? {
+    if !leave_standing(alloc, &versions.items, &names, drawn, &making.ops)? {
         return Err(DrawingError::Differs);
     }
-    let shown_now = match last {
-        Some(ranked) => ranked,
-        None => shown.versions,
-    };
-    if !shows(alloc, &shown_now.items, &drawn.drawing)? {
+    let shown = last.unwrap_or(versions);
+    if !shows(alloc, &shown.items, &drawn.drawing)? {
         return Err(DrawingError::Differs);
     }
     // The clauses of `history` say that what was made is accepted and valid.
     let _ = making.site.history();
+    let Making { site, ops } = making;
     Ok(MadeFrom {
-        site: making.site,
-        ops: making.ops,
-        shown: shown_now,
-        thin: shown.thin,
+        site,
+        ops,
+        shown,
+        thin,
     })
 }
 

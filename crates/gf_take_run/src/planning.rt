@@ -1,6 +1,6 @@
 //! The changes by which a site comes to show a drawing, made behind its base.
 
-ghost use Rattle.std.specs.Prelude.{◌≡◌, ◌≤◌, ℕ, IfErr, IfOk, IfSome, List, length};
+ghost use Rattle.std.specs.Prelude.{◌≡◌, ◌≤◌, ◌++◌, ℕ, IfErr, IfOk, IfSome, List, OnOk, length};
 ghost use Rattle.gf_fig_read.specs.FaultLines.{BeginsOn};
 ghost use Rattle.gf_fig_read.specs.FigGrammar.{Reads};
 ghost use Rattle.gf_fig_read.specs.Objects.{Drawn};
@@ -151,17 +151,23 @@ fn make_more(
     ensures refused { (s : ℕ) (b : List Op) (fig : List ℕ) (d : Drawn) → IsMaking s b making.old
         → IfErr result (RefusesPlan s b fig d) }
 {
-    let mut more = match make_all(alloc, &mut making.site, changes) {
+    let more = match make_all(alloc, &mut making.site, changes) {
         Ok(ops) => ops,
         Err(fault) => return Err(refusal(fault)),
     };
-    let Ok(()) = making.ops.append(&mut more) else {
-        return Err(DrawingError::OutOfMemory);
-    };
+    add_all(&mut making.ops, more)?;
     match listed(alloc, &making.site)? {
         Some(shown) => Ok(shown),
         None => Err(DrawingError::Differs),
     }
+}
+
+/// Puts operations behind others.
+fn add_all(ops: &mut Vec<Op>, mut more: Vec<Op>) -> Result<(), OutOfMemory>
+    ensures { OnOk result (ops.new.items ≡ ops.old.items ++ more.items) }
+{
+    ops.append(&mut more)?;
+    Ok(())
 }
 
 /// Why nothing is taken, where a site refuses a change for this.
