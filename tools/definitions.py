@@ -87,11 +87,13 @@ Worked examples that the logic computes stand in `crates/test_definitions/specs/
 IMPORT = re.compile(r"^\s*(?:ghost )?use Rattle\.(\w+)\.specs\.([\w.]+?)(?:\.\{([^}]*)\}| as (\w+))", re.M)
 DEFINED = re.compile(r"(?:(?:abbrev|unfoldable|opaque|pub) )*(?:(?:record|data) (\S+)|(\S+) : )")
 NAME = re.compile(r"(?<![\w.'-])[A-Za-z_][\w'-]*")
-# What a text binds: in a lambda, in a binder with a type, in a let or a do, as a field.
+# What a text binds: in a lambda, in a binder with a type, in a let or a do, as a field of a type.
 BINDERS = (
     r"λ ([\w' ]+)\.", r"λ \(([\w' ]+) :", r"[({]([\w' ]+) : ", r"\blet (\w+) ", r"(\w+) ←",
-    r"(?m)^\s+(?:pub )?(\w+) : ", r"[{;]\s*(\w+) = ", r"(?m)^\s+(\w+) = [^\n]*;$",
+    r"(?m)^\s+(?:pub )?(\w+) : ",
 )
+# A field that a record's text gives a value.
+GIVEN = re.compile(r"(?m)(?<=[{;])\s*\w+ = |^\s+\w+ = (?=[^\n]*;$)")
 
 
 def bound_in(text):
@@ -109,10 +111,11 @@ class Definition:
 
     def names(self):
         """The names that it rests on."""
-        bound = bound_in(self.parameters + self.text)
+        text = GIVEN.sub(" ", self.parameters + self.text)
+        bound = bound_in(text)
         for patterns in re.findall(rf"(?m)^\s*{re.escape(self.name)} (.*?) =(?:\s|$)", self.text):
             bound |= {name for name in NAME.findall(patterns) if name[0].islower()}
-        return set(NAME.findall(self.parameters + self.text)) - bound - {self.name}
+        return set(NAME.findall(text)) - bound - {self.name}
 
 
 def imports_of(text):

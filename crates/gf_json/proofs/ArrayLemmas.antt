@@ -7,9 +7,11 @@ use Rattle.serde_json.specs.Data.{Data}
 use Rattle.serde_json.specs.declared.value.Value.{Value}
 use Rattle.serde_json.specs.View.{view, items_view}
 use Rattle.gf_json.specs.declared.line_error.LineError.TheVariants as fault
-use Rattle.gf_json.specs.LineValues.{Got, mapped, ◌&◌, each, elements, two_of, and_then}
-use Rattle.gf_json.specs.LineValues.{whole_value}
-use Rattle.gf_json.specs.LineLimits.{clock, entry_value}
+use Rattle.gf_json.specs.LineValues.{Got, mapped, and_then}
+use Rattle.gf_json.specs.LineForms.{elements}
+use Rattle.gf_json.specs.StepValues.{◌&◌, each, two_of}
+use Rattle.gf_json.specs.StepValues.{whole_value}
+use Rattle.gf_json.specs.StepLimits.{clock, entry_value}
 use Rattle.gf_ops.specs.declared.op.Clock.{Clock}
 use Rattle.gf_ops.specs.Limits.{is_clock}
 use Rattle.std.specs.Prelude.{IsTrue}

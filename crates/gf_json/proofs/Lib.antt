@@ -1,5 +1,6 @@
 pub mod ArrayLemmas
 pub mod KeyLemmas
+pub mod FormLemmas
 pub mod PointLemmas
 pub mod IdLemmas
 pub mod WrittenLemmas

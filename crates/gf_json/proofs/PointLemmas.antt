@@ -15,8 +15,10 @@ use Rattle.serde_json.specs.declared.value.Value.{Value}
 use Rattle.serde_json.specs.View.{view, items_view}
 use Rattle.gf_json.specs.declared.line_error.LineError.{LineError}
 use Rattle.gf_json.specs.declared.line_error.LineError.TheVariants as fault
-use Rattle.gf_json.specs.LineValues.{Got, mapped, and_then, ◌&◌, each, elements, two, whole_value}
-use Rattle.gf_json.specs.LineLimits.{coordinate_value, point_value, counted, points_of}
+use Rattle.gf_json.specs.LineValues.{Got, mapped, and_then}
+use Rattle.gf_json.specs.LineForms.{elements}
+use Rattle.gf_json.specs.StepValues.{◌&◌, each, two, whole_value}
+use Rattle.gf_json.specs.StepLimits.{coordinate_value, point_value, counted, points_of}
 use Rattle.gf_json.specs.CheckedPoints.{checked}
 use Rattle.gf_json.proofs.ArrayLemmas.{mapped-parts, beside-parts, beside-mapped, each-all}
 use Rattle.gf_json.proofs.ArrayLemmas.{length-elements}
