@@ -2,7 +2,7 @@
 -- a figure if it is one.
 use Rattle.std.proofs.Common.{◌≡◌, ◌≢◌, ◌≤◌, ℕ, ◌+◌, Bool, true, false, List, [], ◌∷◌, ◌++◌, length}
 use Rattle.std.proofs.Common.{length-append, cond, refl, ap, subst, ◌∙◌, arith, inl, inr, ◌⊎◌, Ok}
-use Rattle.std.specs.Prelude.{⊤, Some, pos, nat_eq, ◌==◌, is_none}
+use Rattle.std.specs.Prelude.{⊤, Some, pos, nat_eq, nat_le, ◌==◌, is_none}
 use Rattle.std.proofs.lemmas.Bool.{eqb-true}
 use Rattle.std.proofs.lemmas.Bool.Decides.{Decides-eqb}
 use Rattle.gf_figures.specs.Colours.{colour_in}
@@ -132,7 +132,8 @@ module _ (d m : Drawn) (t : Token) (ts us left : List Token) (cut : ts ≡ t ∷
 
   adds_of : (n : ℕ) → whole t ≡ Some (pos n) → n ≤ 2 → (is_zero is_one : Bool) → (n == 0) ≡ is_zero
       → (n == 1) ≡ is_one → cond is_zero (colour_object d)
-      (cond is_one (ellipse_object d) (polyline_object d)) us ≡ Ok (m, left) → Adds d m ts left
+      (cond is_one (figure_object 1 4 (λ u. ellipse (nat_le 3 u)) d)
+      (figure_object 2 3 (λ u. chain (u == 2)) d)) us ≡ Ok (m, left) → Adds d m ts left
   adds_of n w most true is_one p q read =
       let code : n ≡ 0 = eqb-true n 0 p in
       adds_colour (w ∙ ap (λ k. Some (pos k)) code) read

@@ -1,12 +1,13 @@
 -- The fields of a style and of an outline lead a reading over as many tokens as it waits for.
-use Rattle.std.proofs.Common.{◌≡◌, ◌≤◌, ℕ, ◌+◌, ◌*◌, Bool, true, false, cond, refl, subst, arith}
-use Rattle.std.specs.Prelude.{⊤, Some, nat_abs, ℤ, if◌then◌else◌}
+use Rattle.std.proofs.Common.{◌≡◌, ◌≤◌, ℕ, ◌+◌, ◌*◌, Bool, true, false, refl, subst, arith}
+use Rattle.std.specs.Prelude.{⊤, Some, nat_abs, ℤ, ◌||◌, if◌then◌else◌}
 use Rattle.std.proofs.lemmas.Bool.{le-leb}
 use Rattle.gf_shape.specs.declared.outline.Outline.{Outline}
 use Rattle.gf_shape.specs.declared.outline.Outline.TheVariants.{Chain}
 use Rattle.gf_figures.specs.Colours.{Table}
 use Rattle.gf_fig_tokens.specs.Fields.{Reader, ◌>>=◌, any, check, give, natural, points}
 use Rattle.gf_fig_tokens.specs.Forms.{whole}
+use Rattle.gf_fig_tokens.specs.declared.faults.FigFault.{FigFault}
 use Rattle.gf_fig_tokens.specs.declared.faults.FigFault.TheVariants as fault
 use Rattle.gf_fig_read.specs.Outlines.{chain, count, ellipse, is_closed}
 use Rattle.gf_fig_read.specs.Styles.{filling, is_known, known_colour, style}
@@ -16,7 +17,7 @@ use Rattle.gf_fig_named.specs.Spelling.{spelt_number}
 use Rattle.gf_fig_named.proofs.StepLemmas.{start, Steps, Goes, Step, one_passes, steps_field}
 use Rattle.gf_fig_named.proofs.StepLemmas.{steps_check, steps_give, steps_bind, over, natural_is}
 use Rattle.gf_fig_named.proofs.StepLemmas.{steps_natural, steps_whole, steps_decimal}
-use Rattle.gf_fig_named.proofs.StepLemmas.{steps_no_angle, steps_point, fewer, before_count}
+use Rattle.gf_fig_named.proofs.StepLemmas.{steps_point, fewer, before_count}
 use Rattle.gf_fig_named.proofs.StepLemmas.{steps_points}
 
 -- ---- styles
