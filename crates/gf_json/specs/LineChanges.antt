@@ -21,13 +21,8 @@ at key form d = option_and_then form (get key d)
 -- the change that creates an object of the form
 abbrev pub creation : Option Form → Data → Option Change
 creation form d = option_map
-    (λ (shape, (at, (fill, (level, visible)))). Create (record {
-      form = shape;
-      place = at;
-      colour = fill;
-      layer = level;
-      shown = visible;
-    }))
+    (λ (f, (p, (c, (l, s)))). Create
+    (record { form = f; place = p; colour = c; layer = l; shown = s }))
     (form & at (codes "place") point d & at (codes "colour") hex_colour d
     & at (codes "layer") natural d & at (codes "shown") as_bool d)
 

@@ -1,7 +1,7 @@
 use Rattle.std.proofs.Common.{refl}
 use Rattle.serde_json.specs.View.{view}
 use Rattle.gf_json.specs.StepLines.{op_of}
-use Rattle.gf_json.proofs.FormLemmas.{within-op}
+use Rattle.gf_json.proofs.FormLineLemmas.{within-op}
 use Rattle.gf_json.proofs.KeyLemmas.{denoted_by, denoted_fault}
 use Rattle.gf_json.proofs.reading.read_op.Goals as goal
 

@@ -5,7 +5,7 @@ use Rattle.serde_json.specs.Read.{max_depth}
 use Rattle.serde_json.specs.Written.{has_float, compact_text}
 use Rattle.serde_json.specs.View.{view}
 use Rattle.gf_json.specs.WrittenScripts.{script_data}
-use Rattle.gf_json.proofs.FormLemmas.{within-script}
+use Rattle.gf_json.proofs.FormLineLemmas.{within-script}
 use Rattle.gf_json.proofs.KeyLemmas.{json-read}
 use Rattle.gf_json.proofs.ScriptAgainLemmas.{script_of-script_data}
 use Rattle.gf_json.proofs.WrittenLemmas.{has_float-script_data, depth-script_data}

@@ -5,7 +5,7 @@ use Rattle.serde_json.specs.Read.{max_depth}
 use Rattle.serde_json.specs.Written.{has_float, compact_text}
 use Rattle.serde_json.specs.View.{view}
 use Rattle.gf_json.specs.WrittenLines.{data_of}
-use Rattle.gf_json.proofs.FormLemmas.{within-op}
+use Rattle.gf_json.proofs.FormLineLemmas.{within-op}
 use Rattle.gf_json.proofs.KeyLemmas.{json-read}
 use Rattle.gf_json.proofs.OpAgainLemmas.{op_of-data_of}
 use Rattle.gf_json.proofs.WrittenLemmas.{has_float-data_of, depth-data_of}

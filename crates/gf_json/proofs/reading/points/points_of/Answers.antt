@@ -4,7 +4,8 @@ use Rattle.gf_json.specs.LineForms.{elements}
 use Rattle.gf_json.specs.StepValues.{◌&◌, each}
 use Rattle.gf_json.specs.StepLimits.{point_value, counted}
 use Rattle.gf_json.specs.CheckedPoints.{checked}
-use Rattle.gf_json.proofs.PointLemmas.{points_checked, points_of-read, points_of-within}
+use Rattle.gf_json.proofs.FormListLemmas.{points_of-within}
+use Rattle.gf_json.proofs.PointLemmas.{points_checked, points_of-read}
 use Rattle.gf_json.proofs.reading.points.points_of.Goals as goal
 
 pub checked_points-requires : goal.checked_points-requires

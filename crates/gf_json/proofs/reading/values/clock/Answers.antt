@@ -3,7 +3,8 @@ use Rattle.serde_json.specs.View.{view, items_view}
 use Rattle.gf_json.specs.LineForms.{elements}
 use Rattle.gf_json.specs.StepValues.{◌&◌}
 use Rattle.gf_json.specs.StepLimits.{entry_value}
-use Rattle.gf_json.proofs.ArrayLemmas.{clock_of_eight, clock-within}
+use Rattle.gf_json.proofs.ArrayLemmas.{clock_of_eight}
+use Rattle.gf_json.proofs.FormListLemmas.{clock-within}
 use Rattle.gf_json.proofs.reading.values.clock.Goals as goal
 
 pub returns-in-Ok-clause-value : goal.returns-in-Ok-clause-value
