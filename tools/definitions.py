@@ -34,6 +34,11 @@ COMMANDS = {
     "s": ("session", "gf_session_run.session_run"),
     "w": ("the words of a command line", "gf_command.command"),
 }
+# Some clauses of `fig_run`, and what they promise; the others promise each byte of what is written.
+CLAUSES = {
+    "exports": "the text reads as a drawing with the colours that the lines mean",
+    "exports waiting source refused": "and what waits, what was read, and why nothing is written",
+}
 # What the head of a file says whose definitions only proofs rest on.
 PRIVATE = "No public clause cites this module."
 HEAD = """# Definitions
@@ -49,6 +54,13 @@ their crates.
 
 To read the definitions of a command in one go, file by file and each with its comment, type its
 letter: `tools/definitions.py f | less`.
+
+What `fig` promises takes more definitions the more clauses of `fig_run` one reads:
+
+| clauses | promise | definitions | their lines |
+|---|---|---|---|
+{clauses}
+| all | and each byte that is written | {whole} |
 
 ## What `fig` rests on
 
@@ -87,11 +99,15 @@ Worked examples that the logic computes stand in `crates/test_definitions/specs/
 IMPORT = re.compile(r"^\s*(?:ghost )?use Rattle\.(\w+)\.specs\.([\w.]+?)(?:\.\{([^}]*)\}| as (\w+))", re.M)
 DEFINED = re.compile(r"(?:(?:abbrev|unfoldable|opaque|pub) )*(?:(?:record|data) (\S+)|(\S+) : )")
 NAME = re.compile(r"(?<![\w.'-])[A-Za-z_][\w'-]*")
-# What a text binds: in a lambda, in a binder with a type, in a let or a do, as a field.
+# An operator, as it stands between its arguments; a `do` stands for that of its lines.
+OPERATOR = re.compile(r"(?<=\s)[^\w\s(){}\[\]:;,.'\"◌]+(?=\s)")
+# What a text binds: in a lambda, in a binder with a type, in a let or a do, as a field of a type.
 BINDERS = (
     r"λ ([\w' ]+)\.", r"λ \(([\w' ]+) :", r"[({]([\w' ]+) : ", r"\blet (\w+) ", r"(\w+) ←",
-    r"(?m)^\s+(?:pub )?(\w+) : ", r"[{;]\s*(\w+) = ", r"(?m)^\s+(\w+) = [^\n]*;$",
+    r"(?m)^\s+(?:pub )?(\w+) : ",
 )
+# A field that a record's text gives a value.
+GIVEN = re.compile(r"(?m)(?<=[{;])\s*\w+ = |^\s+\w+ = (?=[^\n]*;$)")
 
 
 def bound_in(text):
@@ -109,10 +125,12 @@ class Definition:
 
     def names(self):
         """The names that it rests on."""
-        bound = bound_in(self.parameters + self.text)
+        text = GIVEN.sub(" ", self.parameters + self.text)
+        bound = bound_in(text)
         for patterns in re.findall(rf"(?m)^\s*{re.escape(self.name)} (.*?) =(?:\s|$)", self.text):
             bound |= {name for name in NAME.findall(patterns) if name[0].islower()}
-        return set(NAME.findall(self.parameters + self.text)) - bound - {self.name}
+        operators = {f"◌{it}◌" for it in OPERATOR.findall(text)} | ({"◌>>=◌"} if " do\n" in text else set())
+        return (set(NAME.findall(text)) - bound | operators) - {self.name}
 
 
 def imports_of(text):
@@ -206,8 +224,14 @@ def contract(place):
     sys.exit(f"{crate} has no function {function}")
 
 
-def rests_on(files, places):
-    """The definitions that these contracts rest on: each with its module."""
+def some_clauses(whole, names):
+    """A contract with these clauses alone, as a definition."""
+    parts = re.split(r"(?m)^    (?=(?:ensures|requires)\b)", whole.text)
+    return Definition(whole.name, "".join(it for it in parts if it.split()[1] in names))
+
+
+def rests_on(files, places, clauses=()):
+    """The definitions that these contracts, or these clauses of them, rest on: each with its module."""
     found, cited = set(), []
     for place in places.split():
         if place.count(".") == 2:
@@ -215,6 +239,7 @@ def rests_on(files, places):
             continue
         whole, imports, traits = contract(place)
         found |= traits
+        whole = some_clauses(whole, clauses) if clauses else whole
         cited += [imports[name] for name in whole.names() if name in imports]
     return found | rest_of(files, cited)
 
@@ -309,6 +334,11 @@ def page(files):
         return "".join(it for it in COMMANDS if any((at, name) in found[it] for name in names))
 
     counts = [f"| {name} | {letter} | {count(found[letter])} |" for letter, (name, _) in COMMANDS.items()]
+    clauses = [
+        f"| {', '.join(f'`{it}`' for it in names.split())} | {promise} "
+        f"| {count(rests_on(files, COMMANDS['f'][1], names.split()))} |"
+        for names, promise in CLAUSES.items()
+    ]
     fig, added = {}, {}
     for at in sorted_by_crate(files):
         file = files[at]
@@ -329,7 +359,8 @@ def page(files):
             kit.setdefault(crate, set()).add(name)
     listed = [item(f"`{it}`: {', '.join(f'`{name}`' for name in sorted(types[it]))}") for it in order if it in types]
     return HEAD.format(
-        counts="\n".join([*counts, f"| all | | {count(every)} |"]), fig=by_crate(fig),
+        counts="\n".join([*counts, f"| all | | {count(every)} |"]), clauses="\n".join(clauses),
+        whole=count(found["f"]), fig=by_crate(fig),
         added="\n".join(item(f"`{crate}`: {by_letters(added[crate])}") for crate in added),
         types="\n".join(listed), kit=", ".join(f"{len(kit[it])} of {it}" for it in sorted(kit)),
     )

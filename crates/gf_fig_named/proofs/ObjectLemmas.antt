@@ -2,7 +2,7 @@
 -- a figure if it is one.
 use Rattle.std.proofs.Common.{◌≡◌, ◌≢◌, ◌≤◌, ℕ, ◌+◌, Bool, true, false, List, [], ◌∷◌, ◌++◌, length}
 use Rattle.std.proofs.Common.{length-append, cond, refl, ap, subst, ◌∙◌, arith, inl, inr, ◌⊎◌, Ok}
-use Rattle.std.specs.Prelude.{⊤, Some, pos, nat_eq, ◌==◌, is_none}
+use Rattle.std.specs.Prelude.{⊤, Some, pos, nat_eq, nat_le, ◌==◌, is_none}
 use Rattle.std.proofs.lemmas.Bool.{eqb-true}
 use Rattle.std.proofs.lemmas.Bool.Decides.{Decides-eqb}
 use Rattle.gf_figures.specs.Colours.{colour_in}
@@ -10,8 +10,9 @@ use Rattle.gf_fig_tokens.specs.Fields.{natural}
 use Rattle.gf_fig_tokens.specs.Forms.{colour, whole}
 use Rattle.gf_fig_tokens.specs.Layout.{Token}
 use Rattle.gf_fig_tokens.specs.declared.faults.FigFault.TheVariants as fault
-use Rattle.gf_fig_read.specs.Objects.{Drawn, colour_object, ellipse_object, object, polyline_object}
-use Rattle.gf_fig_read.specs.Objects.{with_figure}
+use Rattle.gf_fig_read.specs.Objects.{Drawn, colour_object, figure_object, object}
+use Rattle.gf_fig_read.specs.Stepping.{with_figure}
+use Rattle.gf_fig_read.specs.Outlines.{chain, ellipse}
 use Rattle.gf_fig_read.proofs.ObjectLemmas.{bind_ok}
 use Rattle.gf_fig_named.specs.declared.figures.Place.{Place}
 use Rattle.gf_fig_named.specs.FigureNames.{begins, next, place_at}
@@ -81,18 +82,19 @@ polyline_down n = subst (λ m. Step (place_at m true) (polyline_place n)) (omega
     (subst (λ m. Step (place_at (n + 5 + 2) true) (place_at m true)) (omega arith)
     (before_count (n + 5)))
 
-steps_ellipse_object : (d : Drawn) → Steps (IsNext d) (last 19) (λ m. start) (ellipse_object d)
-unfolding ellipse_object
+steps_ellipse_object : (d : Drawn) → Steps (IsNext d) (last 19) (λ m. start)
+    (figure_object 1 4 (λ t. ellipse (nat_le 3 t)) d)
+unfolding figure_object
 steps_ellipse_object d =
     over (IsNext d) (last 19) (last 10) start _ _
     (steps_style ellipse_place ellipse_down d.table 1 4)
-    (λ s. over (IsNext d) (last 10) start start _ _ (steps_ellipse s.sub_type)
+    (λ s. over (IsNext d) (last 10) start start _ _ (steps_ellipse (nat_le 3 s.sub_type))
     (λ o. steps_give (IsNext d) start (with_figure d s o)
     (refl, one_more d.figures (record { shape = o; colour = s.colour; depth = s.depth }))))
 
 steps_polyline_object : (d : Drawn)
-    → Steps (IsNext d) (place_at 15 true) (λ m. start) (polyline_object d)
-unfolding polyline_object
+    → Steps (IsNext d) (place_at 15 true) (λ m. start) (figure_object 2 3 (λ t. chain (t == 2)) d)
+unfolding figure_object
 steps_polyline_object d =
     over (IsNext d) (place_at 15 true) (before 5) start _ _
     (steps_style polyline_place polyline_down d.table 2 3)
@@ -130,7 +132,8 @@ module _ (d m : Drawn) (t : Token) (ts us left : List Token) (cut : ts ≡ t ∷
 
   adds_of : (n : ℕ) → whole t ≡ Some (pos n) → n ≤ 2 → (is_zero is_one : Bool) → (n == 0) ≡ is_zero
       → (n == 1) ≡ is_one → cond is_zero (colour_object d)
-      (cond is_one (ellipse_object d) (polyline_object d)) us ≡ Ok (m, left) → Adds d m ts left
+      (cond is_one (figure_object 1 4 (λ u. ellipse (nat_le 3 u)) d)
+      (figure_object 2 3 (λ u. chain (u == 2)) d)) us ≡ Ok (m, left) → Adds d m ts left
   adds_of n w most true is_one p q read =
       let code : n ≡ 0 = eqb-true n 0 p in
       adds_colour (w ∙ ap (λ k. Some (pos k)) code) read

@@ -1,14 +1,15 @@
 -- The fields of a style and of an outline lead a reading over as many tokens as it waits for.
-use Rattle.std.proofs.Common.{◌≡◌, ◌≤◌, ℕ, ◌+◌, ◌*◌, Bool, true, false, cond, refl, subst, arith}
-use Rattle.std.specs.Prelude.{⊤, Some, nat_abs, ℤ, if◌then◌else◌}
+use Rattle.std.proofs.Common.{◌≡◌, ◌≤◌, ℕ, ◌+◌, ◌*◌, Bool, true, false, refl, subst, arith}
+use Rattle.std.specs.Prelude.{⊤, Some, nat_abs, ℤ, ◌||◌, if◌then◌else◌}
 use Rattle.std.proofs.lemmas.Bool.{le-leb}
 use Rattle.gf_shape.specs.declared.outline.Outline.{Outline}
 use Rattle.gf_shape.specs.declared.outline.Outline.TheVariants.{Chain}
 use Rattle.gf_figures.specs.Colours.{Table}
 use Rattle.gf_fig_tokens.specs.Fields.{Reader, ◌>>=◌, any, check, give, natural, points}
 use Rattle.gf_fig_tokens.specs.Forms.{whole}
+use Rattle.gf_fig_tokens.specs.declared.faults.FigFault.{FigFault}
 use Rattle.gf_fig_tokens.specs.declared.faults.FigFault.TheVariants as fault
-use Rattle.gf_fig_read.specs.Outlines.{chain, count, disc, ellipse, is_closed, oval}
+use Rattle.gf_fig_read.specs.Outlines.{chain, count, ellipse, is_closed}
 use Rattle.gf_fig_read.specs.Styles.{filling, is_known, known_colour, style}
 use Rattle.gf_fig_named.specs.declared.figures.Place.{Place}
 use Rattle.gf_fig_named.specs.FigureNames.{place_at}
@@ -16,7 +17,7 @@ use Rattle.gf_fig_named.specs.Spelling.{spelt_number}
 use Rattle.gf_fig_named.proofs.StepLemmas.{start, Steps, Goes, Step, one_passes, steps_field}
 use Rattle.gf_fig_named.proofs.StepLemmas.{steps_check, steps_give, steps_bind, over, natural_is}
 use Rattle.gf_fig_named.proofs.StepLemmas.{steps_natural, steps_whole, steps_decimal}
-use Rattle.gf_fig_named.proofs.StepLemmas.{steps_no_angle, steps_point, fewer, before_count}
+use Rattle.gf_fig_named.proofs.StepLemmas.{steps_point, fewer, before_count}
 use Rattle.gf_fig_named.proofs.StepLemmas.{steps_points}
 
 -- ---- styles
@@ -141,40 +142,25 @@ steps_end {A} behind =
     (λ c. over (λ (a : A). ⊤) (last 1) start start _ _ (steps_whole (last 1) start (ends_down 0))
     (λ d. steps_give (λ (a : A). ⊤) start _ tt))))
 
-steps_disc : Goes (last 10) start disc
-unfolding disc
-steps_disc =
+-- a check takes no token
+steps_past : (p : Place) (passes : Bool) (wrong : FigFault) → Goes p p (check passes wrong)
+steps_past p passes wrong = record {
+  of = λ ts left u e. (tt, ((steps_check passes wrong p).of ts left u e).1);
+}
+
+pub steps_ellipse : (round : Bool) → Goes (last 10) start (ellipse round)
+unfolding ellipse
+steps_ellipse round =
     over (λ (o : Outline). ⊤) (last 10) (last 9) start _ _
     (steps_whole (last 10) (last 9) (ends_down 9))
     (λ a. over (λ (o : Outline). ⊤) (last 9) (last 8) start _ _
     (steps_decimal (last 9) (last 8) (ends_down 8))
-    (λ b. over (λ (o : Outline). ⊤) (last 8) (last 6) start _ _
+    (λ b. over (λ (o : Outline). ⊤) (last 8) (last 8) start _ _
+    (steps_past (last 8) (round || b) fault.Angle)
+    (λ u. over (λ (o : Outline). ⊤) (last 8) (last 6) start _ _
     (steps_point (last 8) (last 7) (last 6) (ends_down 7) (ends_down 6))
     (λ c. over (λ (o : Outline). ⊤) (last 6) (last 5) start _ _
     (steps_natural 1 10000000 fault.Radius (last 6) (last 5) (ends_down 5))
     (λ r. over (λ (o : Outline). ⊤) (last 5) (last 4) start _ _
-    (steps_natural r r fault.Radius (last 5) (last 4) (ends_down 4))
-    (λ s. steps_end (λ v w x y. _))))))
-
-steps_oval : Goes (last 10) start oval
-unfolding oval
-steps_oval =
-    over (λ (o : Outline). ⊤) (last 10) (last 9) start _ _
-    (steps_whole (last 10) (last 9) (ends_down 9))
-    (λ a. over (λ (o : Outline). ⊤) (last 9) (last 8) start _ _
-    (steps_no_angle (last 9) (last 8) (ends_down 8))
-    (λ b. over (λ (o : Outline). ⊤) (last 8) (last 6) start _ _
-    (steps_point (last 8) (last 7) (last 6) (ends_down 7) (ends_down 6))
-    (λ c. over (λ (o : Outline). ⊤) (last 6) (last 5) start _ _
-    (steps_natural 1 10000000 fault.Radius (last 6) (last 5) (ends_down 5))
-    (λ r. over (λ (o : Outline). ⊤) (last 5) (last 4) start _ _
-    (steps_natural 1 10000000 fault.Radius (last 5) (last 4) (ends_down 4))
-    (λ s. steps_end (λ v w x y. _))))))
-
-steps_either : (two_radii : Bool) → Goes (last 10) start (cond two_radii oval disc)
-steps_either true = steps_oval
-steps_either false = steps_disc
-
-pub steps_ellipse : (sub_type : ℕ) → Goes (last 10) start (ellipse sub_type)
-unfolding ellipse
-steps_ellipse sub_type = steps_either _
+    (steps_natural _ _ fault.Radius (last 5) (last 4) (ends_down 4))
+    (λ s. steps_end (λ v w x y. _)))))))

@@ -12,8 +12,8 @@ use Rattle.std.proofs.lemmas.List.Sums.{fold-append}
 use Rattle.gf_plane.specs.Reach.{is_reached}
 use Rattle.gf_plane.specs.declared.point.Point.{Point}
 use Rattle.gf_fig_tokens.specs.Fields.{Read, Reader, ◌>>=◌, any, check, coordinate, field, give}
-use Rattle.gf_fig_tokens.specs.Fields.{is_in, natural, no_angle, point, points}
-use Rattle.gf_fig_tokens.specs.Forms.{angle, decimal, whole}
+use Rattle.gf_fig_tokens.specs.Fields.{is_in, natural, point, points}
+use Rattle.gf_fig_tokens.specs.Forms.{decimal, whole}
 use Rattle.gf_fig_tokens.specs.Layout.{Token}
 use Rattle.gf_fig_tokens.specs.declared.faults.FigFault.{FigFault}
 use Rattle.gf_fig_tokens.specs.declared.faults.FigFault.TheVariants as fault
@@ -191,13 +191,6 @@ steps_whole = steps_field whole (λ n. true) fault.Token
 
 pub steps_decimal : (p q : Place) → Step p q → Goes p q (any decimal)
 steps_decimal = steps_field decimal (λ n. true) fault.Token
-
-pub steps_no_angle : (p q : Place) → Step p q → Goes p q no_angle
-unfolding no_angle
-steps_no_angle p q h =
-    over (λ (u : ⊤). ⊤) p q q (any angle) (λ level. check level fault.Angle)
-    (steps_field angle (λ level. true) fault.Token p q h)
-    (λ level. record { of = λ ts left u e. (tt, ((steps_check level fault.Angle q).of ts left u e).1) })
 
 pub steps_point : (p q r : Place) → Step p q → Step q r → Goes p r point
 unfolding point

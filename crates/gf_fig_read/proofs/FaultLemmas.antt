@@ -3,20 +3,21 @@
 use Rattle.std.proofs.Common.{◌≡◌, ◌≢◌, ℕ, zero, suc, Bool, true, false, List, [], ◌∷◌, length}
 use Rattle.std.proofs.Common.{drop, Option, Some, None, Result, Ok, Err, refl, ap, subst, cond}
 use Rattle.std.proofs.Common.{arith, inl, inr}
-use Rattle.std.specs.Prelude.{not, ◌&&◌, ◌==◌, nat_lt, IsTrue, ◌↔◌, pos, nat_abs}
+use Rattle.std.specs.Prelude.{not, ◌&&◌, ◌||◌, ◌==◌, nat_lt, nat_le, IsTrue, ◌↔◌, pos, nat_abs}
 use Rattle.std.proofs.lemmas.Bool.{and_parts}
 use Rattle.gf_plane.specs.Reach.{is_reached}
+use Rattle.gf_shape.specs.declared.outline.Outline.{Outline}
 use Rattle.gf_figures.specs.Colours.{Table}
 use Rattle.gf_fig_tokens.specs.declared.faults.FigFault.{FigFault}
 use Rattle.gf_fig_tokens.specs.declared.faults.FigFault.TheVariants as fault
 use Rattle.gf_fig_tokens.specs.Layout.{Token, object_tokens, is_version, plain_lines, tokens}
 use Rattle.gf_fig_tokens.specs.Layout.{after_resolution}
-use Rattle.gf_fig_tokens.specs.Forms.{whole, decimal, angle, colour}
+use Rattle.gf_fig_tokens.specs.Forms.{whole, decimal, colour}
 use Rattle.gf_fig_tokens.specs.Fields.{Read, Reader, ◌>>=◌, read_on, field, any, check, checked}
-use Rattle.gf_fig_tokens.specs.Fields.{give, is_in, natural, no_angle, coordinate, point, points}
+use Rattle.gf_fig_tokens.specs.Fields.{give, is_in, natural, coordinate, point, points}
 use Rattle.gf_fig_read.specs.Styles.{known_colour, is_known, filling, style}
-use Rattle.gf_fig_read.specs.Outlines.{count, chain, disc, ellipse, oval}
-use Rattle.gf_fig_read.specs.Objects.{Drawn, colour_object, ellipse_object, polyline_object, object}
+use Rattle.gf_fig_read.specs.Outlines.{count, chain, ellipse}
+use Rattle.gf_fig_read.specs.Objects.{Drawn, colour_object, figure_object, object}
 use Rattle.gf_fig_read.specs.FigGrammar.{Fails, is_of_header}
 
 -- f is the want of memory
@@ -149,42 +150,18 @@ blames_chain boxed = blames_bind _ _ (blames_count boxed)
     (λ n. blames_bind _ _ (blames_points n) (λ ps. blames_bind _ _ (blames_check _ fault.Open refl)
     (λ _. blames_give _)))
 
-blames_disc : Blames disc
-unfolding disc
-blames_disc =
+blames_ellipse : (round : Bool) → Blames (ellipse round)
+unfolding ellipse
+blames_ellipse round =
     blames_bind _ _ any_whole
     (λ _. blames_bind _ _ any_decimal
+    (λ zero. blames_bind _ _ (blames_check (round || zero) fault.Angle refl)
     (λ _. blames_bind _ _ blames_point
     (λ c. blames_bind _ _ (blames_natural 1 10000000 fault.Radius refl) (λ r.
-    blames_bind _ _ (blames_natural r r fault.Radius refl)
+    blames_bind _ _ (blames_natural _ _ fault.Radius refl)
     (λ _. blames_bind _ _ any_whole
     (λ _. blames_bind _ _ any_whole (λ _. blames_bind _ _ any_whole (λ _.
-    blames_bind _ _ any_whole (λ _. blames_give _)))))))))
-
-blames_no_angle : Blames no_angle
-unfolding no_angle
-blames_no_angle = blames_bind _ _ (blames_field angle (λ _. true) fault.Token refl)
-    (λ level. blames_check level fault.Angle refl)
-
-blames_oval : Blames oval
-unfolding oval
-blames_oval =
-    blames_bind _ _ any_whole
-    (λ _. blames_bind _ _ blames_no_angle
-    (λ _. blames_bind _ _ blames_point
-    (λ c. blames_bind _ _ (blames_natural 1 10000000 fault.Radius refl) (λ r.
-    blames_bind _ _ (blames_natural 1 10000000 fault.Radius refl)
-    (λ _. blames_bind _ _ any_whole
-    (λ _. blames_bind _ _ any_whole (λ _. blames_bind _ _ any_whole (λ _.
-    blames_bind _ _ any_whole (λ _. blames_give _)))))))))
-
-blames_either : (two_radii : Bool) → Blames (cond two_radii oval disc)
-blames_either true = blames_oval
-blames_either false = blames_disc
-
-blames_ellipse : (sub_type : ℕ) → Blames (ellipse sub_type)
-unfolding ellipse
-blames_ellipse sub_type = blames_either _
+    blames_bind _ _ any_whole (λ _. blames_give _))))))))))
 
 blames_colour_object : (d : Drawn) → Blames (colour_object d)
 unfolding colour_object
@@ -194,21 +171,19 @@ blames_colour_object d =
     (λ n. blames_bind _ _ (blames_check _ fault.ColourTwice refl) (λ _.
     blames_bind _ _ any_colour (λ c. blames_give _))))
 
-blames_ellipse_object : (d : Drawn) → Blames (ellipse_object d)
-unfolding ellipse_object
-blames_ellipse_object d = blames_bind _ _ (blames_style 1 4 d.table)
-    (λ s. blames_bind _ _ (blames_ellipse s.sub_type) (λ o. blames_give _))
-
-blames_polyline_object : (d : Drawn) → Blames (polyline_object d)
-unfolding polyline_object
-blames_polyline_object d = blames_bind _ _ (blames_style 2 3 d.table)
-    (λ s. blames_bind _ _ (blames_chain (s.sub_type == 2)) (λ o. blames_give _))
+blames_figure : (least most : ℕ) (outline : ℕ → Reader Outline) → ((n : ℕ) → Blames (outline n))
+    → (d : Drawn) → Blames (figure_object least most outline d)
+unfolding figure_object
+blames_figure least most outline h d = blames_bind _ _ (blames_style least most d.table)
+    (λ s. blames_bind _ _ (h s.sub_type) (λ o. blames_give _))
 
 blames_of_code : (d : Drawn) (zero_is one_is : Bool)
-    → Blames (cond zero_is (colour_object d) (cond one_is (ellipse_object d) (polyline_object d)))
+    → Blames (cond zero_is (colour_object d)
+    (cond one_is (figure_object 1 4 (λ t. ellipse (nat_le 3 t)) d)
+    (figure_object 2 3 (λ t. chain (t == 2)) d)))
 blames_of_code d true one_is = blames_colour_object d
-blames_of_code d false true = blames_ellipse_object d
-blames_of_code d false false = blames_polyline_object d
+blames_of_code d false true = blames_figure 1 4 _ (λ n. blames_ellipse (nat_le 3 n)) d
+blames_of_code d false false = blames_figure 2 3 _ (λ n. blames_chain (n == 2)) d
 
 blames_object : (d : Drawn) → Blames (object d)
 unfolding object

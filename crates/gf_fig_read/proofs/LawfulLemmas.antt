@@ -1,28 +1,28 @@
 -- What a text reads as has outlines within their limits.
-use Rattle.std.proofs.Common.{◌≡◌, ◌≤◌, ℕ, zero, suc, Bool, true, false, List, [], ◌∷◌, ◌++◌, length}
-use Rattle.std.proofs.Common.{Ok, Err, refl, ap, sym, subst, cond, arith}
+use Rattle.std.proofs.Common.{◌≡◌, ◌≤◌, ℕ, zero, suc, Bool, true, false, List, [], ◌∷◌, length}
+use Rattle.std.proofs.Common.{Ok, Err, refl, ap, subst, cond, arith}
 use Rattle.std.specs.Prelude.{⊤, ℤ, pos, negsuc, nat_abs, nat_eq, nat_le, int_le, is_none, IsTrue}
-use Rattle.std.specs.Prelude.{All, ◌==◌, ◌&&◌}
+use Rattle.std.specs.Prelude.{All, ◌==◌, ◌&&◌, ◌||◌}
 use Rattle.std.proofs.lemmas.Bool.{and_parts, and_from, le-leb, leb-true}
 use Rattle.std.proofs.lemmas.List.Elements.{All-nil, All-cons, All-append}
 use Rattle.gf_plane.specs.declared.point.Point.{Point}
 use Rattle.gf_plane.specs.Reach.{is_reached, is_within_reach}
 use Rattle.gf_shape.specs.declared.outline.Outline.{Outline}
+use Rattle.gf_shape.specs.declared.outline.Outline.TheVariants.{Disc, Oval}
 use Rattle.gf_shape.specs.Oblong.{is_radius}
 use Rattle.gf_shape.specs.ShapeLaws.{IsLawful}
-use Rattle.gf_figures.specs.DrawingState.{DrawingState}
 use Rattle.gf_fig_tokens.specs.declared.faults.FigFault.{FigFault}
 use Rattle.gf_fig_tokens.specs.declared.faults.FigFault.TheVariants as fault
 use Rattle.gf_fig_tokens.specs.Layout.{Token}
 use Rattle.gf_figures.specs.Colours.{colour_in}
 use Rattle.gf_fig_tokens.specs.Forms.{whole, decimal, colour}
 use Rattle.gf_fig_tokens.specs.Fields.{Read, Reader, ◌>>=◌, field, any, check, give, is_in, natural}
-use Rattle.gf_fig_tokens.specs.Fields.{no_angle, coordinate, point, points}
+use Rattle.gf_fig_tokens.specs.Fields.{coordinate, point, points}
 use Rattle.gf_fig_read.specs.declared.styles.Style.{Style}
 use Rattle.gf_fig_read.specs.Styles.{style}
-use Rattle.gf_fig_read.specs.Outlines.{count, chain, disc, ellipse, is_closed, oval}
-use Rattle.gf_fig_read.specs.Objects.{Drawn, with_figure, colour_object, ellipse_object}
-use Rattle.gf_fig_read.specs.Objects.{polyline_object, object}
+use Rattle.gf_fig_read.specs.Outlines.{count, chain, ellipse, is_closed}
+use Rattle.gf_fig_read.specs.Objects.{Drawn, colour_object, figure_object, object}
+use Rattle.gf_fig_read.specs.Stepping.{with_figure}
 use Rattle.gf_fig_read.specs.FigGrammar.{Leads, none, more, nothing, Reads}
 use Rattle.gf_fig_read.proofs.ObjectLemmas.{bind_ok, field_takes}
 use Rattle.gf_fig_read.proofs.RingLemmas.{ring_from}
@@ -132,37 +132,29 @@ lawful_chain boxed = then (IsCount boxed) IsLawful (count boxed) _ (how_many box
 radius_from : (n : ℕ) → IsBetween 1 10000000 n → is_radius n ≡ true
 radius_from n h = and_from (nat_le 1 n) (nat_le n 10000000) (le-leb 1 n h.0) (le-leb n 10000000 h.1)
 
-lawful_disc : Yields IsLawful disc
-unfolding disc
-lawful_disc =
-    past _ (any whole) _ (λ _. past _ (any decimal) _ (λ _. then IsNear IsLawful point _ near (λ c h.
-    then (IsBetween 1 10000000) IsLawful (natural 1 10000000 fault.Radius) _
-    (between 1 10000000 fault.Radius) (λ r k.
-    past _ (natural r r fault.Radius) _ (λ _. past _ (any whole) _ (λ _. past _ (any whole) _ (λ _.
-    past _ (any whole) _ (λ _. past _ (any whole) _ (λ _.
-    gives IsLawful _ (and_from (is_within_reach c && nat_le 1 r) (nat_le r 10000000)
-    (and_from (is_within_reach c) (nat_le 1 r) h (le-leb 1 r k.0)) (le-leb r 10000000 k.1)))))))))))
+lawful_either : (round : Bool) (c : Point) (r s : ℕ) → IsNear c → IsBetween 1 10000000 r
+    → IsBetween (cond round r 1) (cond round r 10000000) s
+    → IsLawful (cond round (Disc (record { centre = c; radius = r }))
+    (Oval (record { centre = c; rx = r; ry = s })))
+lawful_either true c r s h k l =
+    and_from (is_within_reach c && nat_le 1 r) (nat_le r 10000000)
+    (and_from (is_within_reach c) (nat_le 1 r) h (le-leb 1 r k.0)) (le-leb r 10000000 k.1)
+lawful_either false c r s h k l =
+    and_from (is_within_reach c && is_radius r) (is_radius s)
+    (and_from (is_within_reach c) (is_radius r) h (radius_from r k)) (radius_from s l)
 
-lawful_oval : Yields IsLawful oval
-unfolding oval
-lawful_oval =
-    past _ (any whole) _ (λ _. past _ no_angle _ (λ _. then IsNear IsLawful point _ near (λ c h.
-    then (IsBetween 1 10000000) IsLawful (natural 1 10000000 fault.Radius) _
-    (between 1 10000000 fault.Radius) (λ r k.
-    then (IsBetween 1 10000000) IsLawful (natural 1 10000000 fault.Radius) _
-    (between 1 10000000 fault.Radius) (λ s l.
-    past _ (any whole) _ (λ _. past _ (any whole) _ (λ _. past _ (any whole) _ (λ _.
-    past _ (any whole) _ (λ _. gives IsLawful _
-    (and_from (is_within_reach c && is_radius r) (is_radius s)
-    (and_from (is_within_reach c) (is_radius r) h (radius_from r k)) (radius_from s l)))))))))))
-
-lawful_either : (two_radii : Bool) → Yields IsLawful (cond two_radii oval disc)
-lawful_either true = lawful_oval
-lawful_either false = lawful_disc
-
-lawful_ellipse : (sub_type : ℕ) → Yields IsLawful (ellipse sub_type)
+lawful_ellipse : (round : Bool) → Yields IsLawful (ellipse round)
 unfolding ellipse
-lawful_ellipse sub_type = lawful_either _
+lawful_ellipse round =
+    past _ (any whole) _ (λ _. past _ (any decimal) _ (λ zero.
+    past _ (check (round || zero) fault.Angle) _ (λ _. then IsNear IsLawful point _ near (λ c h.
+    then (IsBetween 1 10000000) IsLawful (natural 1 10000000 fault.Radius) _
+    (between 1 10000000 fault.Radius) (λ r k.
+    then (IsBetween (cond round r 1) (cond round r 10000000)) IsLawful
+    (natural (cond round r 1) (cond round r 10000000) fault.Radius) _
+    (between (cond round r 1) (cond round r 10000000) fault.Radius) (λ s l.
+    past _ (any whole) _ (λ _. past _ (any whole) _ (λ _. past _ (any whole) _ (λ _.
+    past _ (any whole) _ (λ _. gives IsLawful _ (lawful_either round c r s h k l)))))))))))
 
 -- ---- objects
 
@@ -184,22 +176,21 @@ lawful_colour d all =
     past _ (check (is_none (colour_in d.table n)) fault.ColourTwice) _ (λ _.
     past _ (any colour) _ (λ _. gives AreLawful _ all))))
 
-lawful_round : (d : Drawn) → AreLawful d → Yields AreLawful (ellipse_object d)
-unfolding ellipse_object
-lawful_round d all = past _ (style 1 4 d.table) _ (λ s. then IsLawful AreLawful (ellipse s.sub_type) _
-    (lawful_ellipse s.sub_type) (λ o h. gives AreLawful _ (with_one d s o all h)))
-
-lawful_line : (d : Drawn) → AreLawful d → Yields AreLawful (polyline_object d)
-unfolding polyline_object
-lawful_line d all = past _ (style 2 3 d.table) _ (λ s. then IsLawful AreLawful (chain (s.sub_type == 2)) _
-    (lawful_chain (s.sub_type == 2)) (λ o h. gives AreLawful _ (with_one d s o all h)))
+lawful_figure : (least most : ℕ) (outline : ℕ → Reader Outline)
+    → ((n : ℕ) → Yields IsLawful (outline n)) → (d : Drawn) → AreLawful d
+    → Yields AreLawful (figure_object least most outline d)
+unfolding figure_object
+lawful_figure least most outline lawful d all = past _ (style least most d.table) _
+    (λ s. then IsLawful AreLawful (outline s.sub_type) _ (lawful s.sub_type)
+    (λ o h. gives AreLawful _ (with_one d s o all h)))
 
 lawful_by_code : (d : Drawn) → AreLawful d → (zero_is one_is : Bool)
-    → Yields AreLawful (cond zero_is (colour_object d) (cond one_is (ellipse_object d)
-    (polyline_object d)))
+    → Yields AreLawful (cond zero_is (colour_object d)
+    (cond one_is (figure_object 1 4 (λ t. ellipse (nat_le 3 t)) d)
+    (figure_object 2 3 (λ t. chain (t == 2)) d)))
 lawful_by_code d all true one_is = lawful_colour d all
-lawful_by_code d all false true = lawful_round d all
-lawful_by_code d all false false = lawful_line d all
+lawful_by_code d all false true = lawful_figure 1 4 _ (λ n. lawful_ellipse (nat_le 3 n)) d all
+lawful_by_code d all false false = lawful_figure 2 3 _ (λ n. lawful_chain (n == 2)) d all
 
 lawful_object : (d : Drawn) → AreLawful d → Yields AreLawful (object d)
 unfolding object

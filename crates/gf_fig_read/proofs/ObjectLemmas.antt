@@ -2,7 +2,7 @@
 use Rattle.std.proofs.Common.{◌≡◌, ◌≤◌, ◌<◌, ℕ, zero, suc, ◌+◌, Bool, true, false, List, [], ◌∷◌}
 use Rattle.std.proofs.Common.{◌++◌, length, length-append, Option, Some, None, Ok, Err, refl, ap}
 use Rattle.std.proofs.Common.{subst, cond, arith}
-use Rattle.std.specs.Prelude.{⊤, pos, nat_abs, ◌==◌}
+use Rattle.std.specs.Prelude.{⊤, pos, nat_abs, nat_le, ◌==◌, ◌||◌}
 use Rattle.gf_plane.specs.declared.point.Point.{Point}
 use Rattle.gf_plane.specs.Reach.{is_reached}
 use Rattle.gf_shape.specs.declared.outline.Outline.{Outline}
@@ -11,13 +11,13 @@ use Rattle.gf_fig_tokens.specs.declared.faults.FigFault.{FigFault}
 use Rattle.gf_fig_tokens.specs.declared.faults.FigFault.TheVariants as fault
 use Rattle.gf_fig_read.specs.declared.styles.Style.{Style}
 use Rattle.gf_fig_tokens.specs.Layout.{Token}
-use Rattle.gf_fig_tokens.specs.Forms.{whole, decimal, angle, colour}
+use Rattle.gf_fig_tokens.specs.Forms.{whole, decimal, colour}
 use Rattle.gf_fig_tokens.specs.Fields.{Read, Reader, ◌>>=◌, read_on, field, any, check, checked}
-use Rattle.gf_fig_tokens.specs.Fields.{give, is_in, natural, no_angle, coordinate, point, points}
-use Rattle.gf_fig_read.specs.Objects.{Drawn, with_figure, colour_object, ellipse_object}
-use Rattle.gf_fig_read.specs.Objects.{polyline_object, object}
+use Rattle.gf_fig_tokens.specs.Fields.{give, is_in, natural, coordinate, point, points}
+use Rattle.gf_fig_read.specs.Objects.{Drawn, colour_object, figure_object, object}
+use Rattle.gf_fig_read.specs.Stepping.{with_figure}
 use Rattle.gf_fig_read.specs.Styles.{known_colour, is_known, filling, style}
-use Rattle.gf_fig_read.specs.Outlines.{count, chain, disc, ellipse, oval}
+use Rattle.gf_fig_read.specs.Outlines.{count, chain, ellipse}
 use Rattle.gf_fig_read.specs.FigGrammar.{Leads, none, more, nothing}
 
 -- whatever r gives has P, and r makes no tokens
@@ -175,42 +175,18 @@ gives_chain boxed =
     (λ n. gives_bind _ _ _ (gives_points n) (λ ps. gives_bind _ _ _ (gives_check _ fault.Open)
     (λ _. gives_give (λ (o : Outline). ⊤) _ tt)))
 
-gives_disc : Any disc
-unfolding disc
-gives_disc =
+gives_ellipse : (round : Bool) → Any (ellipse round)
+unfolding ellipse
+gives_ellipse round =
     gives_bind _ _ _ any_whole
     (λ _. gives_bind _ _ _ any_decimal
+    (λ zero. gives_bind _ _ _ (gives_check (round || zero) fault.Angle)
     (λ _. gives_bind _ _ _ gives_point
     (λ c. gives_bind _ _ _ (gives_natural 1 10000000 fault.Radius) (λ r.
-    gives_bind _ _ _ (gives_natural r r fault.Radius)
+    gives_bind _ _ _ (gives_natural _ _ fault.Radius)
     (λ _. gives_bind _ _ _ any_whole
     (λ _. gives_bind _ _ _ any_whole (λ _. gives_bind _ _ _ any_whole (λ _.
-    gives_bind _ _ _ any_whole (λ _. gives_give (λ (o : Outline). ⊤) _ tt)))))))))
-
-gives_no_angle : Any no_angle
-unfolding no_angle
-gives_no_angle = gives_bind _ _ _ (gives_field angle (λ _. true) fault.Token)
-    (λ level. gives_check level fault.Angle)
-
-gives_oval : Any oval
-unfolding oval
-gives_oval =
-    gives_bind _ _ _ any_whole
-    (λ _. gives_bind _ _ _ gives_no_angle
-    (λ _. gives_bind _ _ _ gives_point
-    (λ c. gives_bind _ _ _ (gives_natural 1 10000000 fault.Radius) (λ r.
-    gives_bind _ _ _ (gives_natural 1 10000000 fault.Radius)
-    (λ s. gives_bind _ _ _ any_whole
-    (λ _. gives_bind _ _ _ any_whole (λ _. gives_bind _ _ _ any_whole (λ _.
-    gives_bind _ _ _ any_whole (λ _. gives_give (λ (o : Outline). ⊤) _ tt)))))))))
-
-gives_either : (two_radii : Bool) → Any (cond two_radii oval disc)
-gives_either true = gives_oval
-gives_either false = gives_disc
-
-gives_ellipse : (sub_type : ℕ) → Any (ellipse sub_type)
-unfolding ellipse
-gives_ellipse sub_type = gives_either _
+    gives_bind _ _ _ any_whole (λ _. gives_give (λ (o : Outline). ⊤) _ tt))))))))))
 
 -- ---- objects
 
@@ -238,24 +214,20 @@ gives_colour_object d =
     (λ c. gives_give (HasOneMore d) (record d { table = d.table ++ (n, c) ∷ [] })
     (let l = one_more d.table (n, c) in omega (arith, l))))))
 
-gives_ellipse_object : (d : Drawn) → Gives (HasOneMore d) (ellipse_object d)
-unfolding ellipse_object
-gives_ellipse_object d = gives_bind _ _ _ (gives_style 1 4 d.table)
-    (λ s. gives_bind _ _ _ (gives_ellipse s.sub_type)
-    (λ o. gives_give (HasOneMore d) (with_figure d s o) (more_figures d s o)))
-
-gives_polyline_object : (d : Drawn) → Gives (HasOneMore d) (polyline_object d)
-unfolding polyline_object
-gives_polyline_object d = gives_bind _ _ _ (gives_style 2 3 d.table)
-    (λ s. gives_bind _ _ _ (gives_chain (s.sub_type == 2))
+gives_figure : (least most : ℕ) (outline : ℕ → Reader Outline) → ((n : ℕ) → Any (outline n))
+    → (d : Drawn) → Gives (HasOneMore d) (figure_object least most outline d)
+unfolding figure_object
+gives_figure least most outline h d = gives_bind _ _ _ (gives_style least most d.table)
+    (λ s. gives_bind _ _ _ (h s.sub_type)
     (λ o. gives_give (HasOneMore d) (with_figure d s o) (more_figures d s o)))
 
 gives_of_code : (d : Drawn) (zero_is one_is : Bool)
     → Gives (HasOneMore d) (cond zero_is (colour_object d)
-    (cond one_is (ellipse_object d) (polyline_object d)))
+    (cond one_is (figure_object 1 4 (λ t. ellipse (nat_le 3 t)) d)
+    (figure_object 2 3 (λ t. chain (t == 2)) d)))
 gives_of_code d true one_is = gives_colour_object d
-gives_of_code d false true = gives_ellipse_object d
-gives_of_code d false false = gives_polyline_object d
+gives_of_code d false true = gives_figure 1 4 _ (λ n. gives_ellipse (nat_le 3 n)) d
+gives_of_code d false false = gives_figure 2 3 _ (λ n. gives_chain (n == 2)) d
 
 strict : (low high : ℕ) (wrong : FigFault) (ts left : List Token) (n : ℕ)
     → natural low high wrong ts ≡ Ok (n, left) → length left < length ts

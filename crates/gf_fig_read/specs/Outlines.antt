@@ -1,13 +1,13 @@
 -- The outlines of polylines and ellipses, field by field (Xfig, FIG Format 3.2: join_style to the
 -- points, direction to end_y); the limits and the faults are this project's profile.
-use Rattle.std.specs.Prelude.{ℕ, ◌-◌, nat_le, Bool, false, ◌&&◌, List, length, Option}
+use Rattle.std.specs.Prelude.{ℕ, ◌-◌, Bool, false, ◌&&◌, ◌||◌, List, length, Option}
 use Rattle.std.specs.Prelude.{Some, slice_get, if◌then◌else◌}
 use Rattle.std.specs.Ordering.{int_eq}
 use Rattle.gf_plane.specs.declared.point.Point.{Point}
 use Rattle.gf_shape.specs.declared.outline.Outline.{Outline}
 use Rattle.gf_shape.specs.declared.outline.Outline.TheVariants.{Chain, Disc, Oval}
 use Rattle.gf_fig_tokens.specs.Forms.{whole, decimal}
-use Rattle.gf_fig_tokens.specs.Fields.{Reader, ◌>>=◌, any, check, give, natural, no_angle, point}
+use Rattle.gf_fig_tokens.specs.Fields.{Reader, ◌>>=◌, any, check, give, natural, point}
 use Rattle.gf_fig_tokens.specs.Fields.{points}
 use Rattle.gf_fig_tokens.specs.declared.faults.FigFault.TheVariants as fault
 
@@ -38,34 +38,20 @@ chain boxed = do
   closed ← check (is_closed ps) fault.Open
   give (Chain (record { boxed = boxed; points = ps }))
 
--- the fields of a circle from direction to end_y; a circle is the same at every angle
-unfoldable pub disc : Reader Outline
-disc = do
+-- the fields of an ellipse from direction to end_y. A circle has one radius twice, and is the same
+-- at every angle; other axes are level
+unfoldable pub ellipse : Bool → Reader Outline
+ellipse round = do
   direction ← any whole
-  angle ← any decimal
+  zero ← any decimal
+  angle ← check (round || zero) fault.Angle
   centre ← point
   radius_x ← natural 1 10000000 fault.Radius
-  radius_y ← natural radius_x radius_x fault.Radius
+  radius_y ← natural (if round then radius_x else 1) (if round then radius_x else 10000000)
+      fault.Radius
   start_x ← any whole
   start_y ← any whole
   end_x ← any whole
   end_y ← any whole
-  give (Disc (record { centre = centre; radius = radius_x }))
-
--- the fields of an ellipse with two radii from direction to end_y; the axes are level
-unfoldable pub oval : Reader Outline
-oval = do
-  direction ← any whole
-  angle ← no_angle
-  centre ← point
-  radius_x ← natural 1 10000000 fault.Radius
-  radius_y ← natural 1 10000000 fault.Radius
-  start_x ← any whole
-  start_y ← any whole
-  end_x ← any whole
-  end_y ← any whole
-  give (Oval (record { centre = centre; rx = radius_x; ry = radius_y }))
-
--- the fields of an ellipse from direction to end_y, a circle where the sub type is 3 or 4
-unfoldable pub ellipse : ℕ → Reader Outline
-ellipse sub_type = if nat_le sub_type 2 then oval else disc
+  give (if round then Disc (record { centre = centre; radius = radius_x })
+      else Oval (record { centre = centre; rx = radius_x; ry = radius_y }))

@@ -1,9 +1,11 @@
 //! The objects of a FIG text.
 
-ghost use Rattle.std.specs.Prelude.{◌≡◌, ◌≤◌, ◌∷◌, OnOk, IfErr, IsTrue, is_some, is_none};
+ghost use Rattle.std.specs.Prelude.{◌≡◌, ◌≤◌, ◌==◌, ◌∷◌, nat_le, OnOk, IfErr, IsTrue};
+ghost use Rattle.std.specs.Prelude.{is_some, is_none};
 ghost use Rattle.gf_figures.specs.Colours.{colour_in, rgb_of};
-ghost use Rattle.gf_fig_read.specs.Objects.{with_figure, colour_object, ellipse_object};
-ghost use Rattle.gf_fig_read.specs.Objects.{polyline_object, object};
+ghost use Rattle.gf_fig_read.specs.Objects.{colour_object, figure_object, object};
+ghost use Rattle.gf_fig_read.specs.Outlines.{chain, ellipse};
+ghost use Rattle.gf_fig_read.specs.Stepping.{with_figure};
 ghost use Rattle.gf_fig_tokens.specs.declared.faults.FigFault.TheVariants as fault;
 ghost use Rattle.gf_fig_read.specs.Stepping.{AddsObject};
 
@@ -57,23 +59,25 @@ fn add_figure(drawing: &mut Drawing<Outline>, style: Style, shape: Outline) -> R
 }
 
 /// Adds the ellipse whose fields follow.
-#[tactic(auto, unfolding(crate::specs::Objects::ellipse_object))]
+#[tactic(auto, unfolding(crate::specs::Objects::figure_object))]
 fn add_ellipse(tokens: &mut Tokens<'_>, drawing: &mut Drawing<Outline>) -> Result<(), FigFault>
-    ensures { AddsObject result drawing.new tokens.new (ellipse_object drawing.old tokens.old) }
+    ensures { AddsObject result drawing.new tokens.new
+        (figure_object 1 4 (λ t. ellipse (nat_le 3 t)) drawing.old tokens.old) }
 {
     let style = style_of(tokens, 1, 4, drawing)?;
-    let ellipse = ellipse(tokens, style.sub_type)?;
+    let ellipse = ellipse(tokens, 3 <= style.sub_type)?;
     add_figure(drawing, style, ellipse)
 }
 
 /// Adds the polyline whose fields follow.
-#[tactic(auto, unfolding(crate::specs::Objects::polyline_object))]
+#[tactic(auto, unfolding(crate::specs::Objects::figure_object))]
 fn add_polyline(
     alloc: Global,
     tokens: &mut Tokens<'_>,
     drawing: &mut Drawing<Outline>,
 ) -> Result<(), FigFault>
-    ensures { AddsObject result drawing.new tokens.new (polyline_object drawing.old tokens.old) }
+    ensures { AddsObject result drawing.new tokens.new
+        (figure_object 2 3 (λ t. chain (t == 2)) drawing.old tokens.old) }
 {
     let style = style_of(tokens, 2, 3, drawing)?;
     let chain = chain(alloc, tokens, style.sub_type == 2)?;

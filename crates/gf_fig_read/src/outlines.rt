@@ -3,58 +3,36 @@
 ghost use Rattle.std.specs.Prelude.{◌≡◌, ◌≤◌, true, length, All, Some, IfOk, IsTrue};
 ghost use Rattle.gf_plane.specs.Reach.{is_within_reach};
 ghost use Rattle.gf_fig_tokens.specs.Fields.{StepsAs, points};
-ghost use Rattle.gf_fig_read.specs.Outlines.{same_point, is_closed, count, chain, disc, oval};
-ghost use Rattle.gf_fig_read.specs.Outlines.{ellipse};
+ghost use Rattle.gf_fig_read.specs.Outlines.{same_point, is_closed, count, chain, ellipse};
 ghost use Rattle.gf_fig_read.specs.Stepping.{Recalls};
 
 use gf_fig_tokens::{FigFault, Tokens};
 use gf_shape::{Chain, Disc, Outline, Oval, Point};
 use std::alloc::Global;
 
-/// The fields of an ellipse of this sub type behind its style.
+/// The fields of an ellipse behind its style, a circle where it is to be round.
 #[tactic(auto, unfolding(crate::specs::Outlines::ellipse))]
-pub(crate) fn ellipse(tokens: &mut Tokens<'_>, sub_type: u32) -> Result<Outline, FigFault>
-    ensures { StepsAs result tokens.new (ellipse sub_type tokens.old) }
-{
-    if sub_type <= 2 {
-        oval(tokens)
-    } else {
-        disc(tokens)
-    }
-}
-
-/// The fields of an ellipse with two radii.
-#[tactic(auto, unfolding(crate::specs::Outlines::oval))]
-fn oval(tokens: &mut Tokens<'_>) -> Result<Outline, FigFault>
-    ensures { StepsAs result tokens.new (oval tokens.old) }
+pub(crate) fn ellipse(tokens: &mut Tokens<'_>, round: bool) -> Result<Outline, FigFault>
+    ensures { StepsAs result tokens.new (ellipse round tokens.old) }
 {
     tokens.whole()?;
-    tokens.no_angle()?;
+    let zero = tokens.decimal()?;
+    if !(round || zero) {
+        return Err(FigFault::Angle);
+    }
     let centre = tokens.point()?;
     let rx = tokens.natural(1, 10_000_000, FigFault::Radius)?;
-    let ry = tokens.natural(1, 10_000_000, FigFault::Radius)?;
+    let (least, most) = if round { (rx, rx) } else { (1, 10_000_000) };
+    let ry = tokens.natural(least, most, FigFault::Radius)?;
     tokens.whole()?;
     tokens.whole()?;
     tokens.whole()?;
     tokens.whole()?;
-    Ok(Outline::Oval(Oval::new(centre, rx, ry)))
-}
-
-/// The fields of a circle.
-#[tactic(auto, unfolding(crate::specs::Outlines::disc))]
-fn disc(tokens: &mut Tokens<'_>) -> Result<Outline, FigFault>
-    ensures { StepsAs result tokens.new (disc tokens.old) }
-{
-    tokens.whole()?;
-    tokens.decimal()?;
-    let centre = tokens.point()?;
-    let radius = tokens.natural(1, 10_000_000, FigFault::Radius)?;
-    tokens.natural(radius, radius, FigFault::Radius)?;
-    tokens.whole()?;
-    tokens.whole()?;
-    tokens.whole()?;
-    tokens.whole()?;
-    Ok(Outline::Disc(Disc::new(centre, radius)))
+    Ok(if round {
+        Outline::Disc(Disc::new(centre, rx))
+    } else {
+        Outline::Oval(Oval::new(centre, rx, ry))
+    })
 }
 
 /// The fields of a polyline from its join style on: how many points follow.

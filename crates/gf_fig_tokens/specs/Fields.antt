@@ -7,7 +7,7 @@ use Rattle.std.specs.Prelude.{pos, nat_abs, int_le}
 use Rattle.gf_plane.specs.declared.point.Point.{Point}
 use Rattle.gf_plane.specs.Reach.{is_reached}
 use Rattle.gf_fig_tokens.specs.Layout.{Token}
-use Rattle.gf_fig_tokens.specs.Forms.{whole, angle}
+use Rattle.gf_fig_tokens.specs.Forms.{whole}
 use Rattle.gf_fig_tokens.specs.declared.faults.FigFault.{FigFault}
 use Rattle.gf_fig_tokens.specs.declared.faults.FigFault.TheVariants as fault
 
@@ -66,12 +66,6 @@ unfoldable pub natural : ℕ → ℕ → FigFault → Reader ℕ
 natural low high wrong = do
   n ← field whole (is_in (pos low) (pos high)) wrong
   give (nat_abs n)
-
--- an angle of zero: level axes
-unfoldable pub no_angle : Reader ⊤
-no_angle = do
-  level ← any angle
-  check level fault.Angle
 
 -- a coordinate within reach
 abbrev pub coordinate : Reader ℤ

@@ -1,8 +1,8 @@
 -- The forms of tokens, and what a token of each form stands for (Xfig, FIG Format 3.2: numbers and
 -- colours; at most 18 digits is this project's choice).
-use Rattle.std.specs.Prelude.{ℕ, ◌+◌, ◌*◌, ◌-◌, Bool, true, false, not, ◌&&◌}
+use Rattle.std.specs.Prelude.{ℕ, ◌+◌, ◌*◌, ◌-◌, Bool, false, not, ◌&&◌}
 use Rattle.std.specs.Prelude.{◌||◌, ◌==◌, nat_le, List, [], ◌∷◌, length, fold, Option}
-use Rattle.std.specs.Prelude.{Some, None, option_map, ⊤, ℤ, pos, ◌-ℤ◌}
+use Rattle.std.specs.Prelude.{Some, None, ℤ, pos, ◌-ℤ◌, count_by}
 use Rattle.std.specs.Prelude.{if◌then◌else◌}
 use Rattle.std.specs.List.{list_all}
 use Rattle.gf_plane.specs.declared.colour.Rgb.{Rgb}
@@ -38,34 +38,30 @@ whole t =
     if nat_le 1 (length ds) && nat_le (length ds) 18 && list_all is_digit ds
     then Some (if is_negative t then pos 0 -ℤ n else n) else None
 
--- nothing, or a '.' and any number of digits
-abbrev pub is_fraction : List ℕ → Bool
-is_fraction [] = true
-is_fraction (b ∷ bs) = b == 46 && list_all is_digit bs
+-- byte b is '.'
+abbrev pub is_point : ℕ → Bool
+is_point b = b == 46
 
--- digits, and then perhaps a fraction
-abbrev pub are_digits_and_fraction : List ℕ → Bool
-are_digits_and_fraction [] = true
-are_digits_and_fraction (b ∷ bs) =
-    (is_digit b && are_digits_and_fraction bs) || is_fraction (b ∷ bs)
+-- digits, with at most one '.' before, among or behind them
+abbrev pub are_digits_and_point : List ℕ → Bool
+are_digits_and_point bs =
+    list_all (λ b. is_digit b || is_point b) bs && nat_le (count_by is_point bs) 1
 
 -- the first byte is a digit
 abbrev pub begins_with_digit : List ℕ → Bool
 begins_with_digit [] = false
 begins_with_digit (b ∷ bs) = is_digit b
 
--- a decimal: an optional sign, at least one digit, and perhaps a fraction; its value is not kept
-unfoldable pub decimal : List ℕ → Option ⊤
-decimal t = if begins_with_digit (after_sign t) && are_digits_and_fraction (after_sign t)
-    then Some tt else None
-
 -- each digit of the token is 0
 abbrev pub is_zero : List ℕ → Bool
 is_zero t = list_all (λ b. b == 48 || not (is_digit b)) t
 
--- an angle: a decimal, of whose value is kept whether it is zero
-unfoldable pub angle : List ℕ → Option Bool
-angle t = option_map (λ u. is_zero t) (decimal t)
+-- a decimal: an optional sign, a digit, and then digits with at most one '.'; of its value is kept
+-- whether it is zero
+unfoldable pub decimal : List ℕ → Option Bool
+decimal t =
+    let ds = after_sign t in
+    if begins_with_digit ds && are_digits_and_point ds then Some (is_zero t) else None
 
 -- a colour: '#' and six hexadecimal digits
 unfoldable pub colour : List ℕ → Option Rgb

@@ -1,11 +1,10 @@
 //! The forms of tokens.
 
-ghost use Rattle.std.specs.Prelude.{◌≡◌, ◌≤◌, ◌<◌, ◌^◌, length, IsTrue};
+ghost use Rattle.std.specs.Prelude.{◌≡◌, ◌≤◌, ◌<◌, ◌^◌, ◌||◌, length, count_by, IsTrue};
 ghost use Rattle.std.specs.List.{list_all};
 ghost use Rattle.gf_fig_tokens.specs.Forms.{is_digit, after_sign, is_negative, digits_value, whole};
-ghost use Rattle.gf_fig_tokens.specs.Forms.{is_fraction, are_digits_and_fraction};
-ghost use Rattle.gf_fig_tokens.specs.Forms.{begins_with_digit};
-ghost use Rattle.gf_fig_tokens.specs.Forms.{is_zero, decimal, angle, colour};
+ghost use Rattle.gf_fig_tokens.specs.Forms.{is_point, are_digits_and_point, begins_with_digit};
+ghost use Rattle.gf_fig_tokens.specs.Forms.{is_zero, decimal, colour};
 
 use gf_plane::{Rgb, rgb_of_hex};
 
@@ -77,13 +76,16 @@ pub(crate) fn colour(token: &[u8]) -> Option<Rgb>
     }
 }
 
-fn is_fraction(bytes: &[u8]) -> bool
-    ensures { result ≡ is_fraction bytes.now }
+fn is_point(b: u8) -> bool
+    ensures { result ≡ is_point b }
 {
-    match bytes {
-        [] => true,
-        [b, digits @ ..] => *b == b'.' && are_digits(digits),
-    }
+    b == b'.'
+}
+
+fn points(bytes: &[u8]) -> usize
+    ensures { result ≡ count_by is_point bytes.now }
+{
+    bytes.iter().filter(|b| is_point(**b)).count()
 }
 
 fn begins_with_digit(bytes: &[u8]) -> bool
@@ -95,27 +97,16 @@ fn begins_with_digit(bytes: &[u8]) -> bool
     }
 }
 
-fn are_digits_and_fraction(bytes: &[u8]) -> bool
-    ensures { result ≡ are_digits_and_fraction bytes.now }
+fn are_digits_or_points(bytes: &[u8]) -> bool
+    ensures { result ≡ list_all (λ b. is_digit b || is_point b) bytes.now }
 {
-    let mut rest = bytes;
-    while begins_with_digit(rest) {
-        rest = &rest[1..];
-    }
-    is_fraction(rest)
+    bytes.iter().all(|b| is_digit(*b) || is_point(*b))
 }
 
-/// An optional sign, digits, and perhaps a fraction.
-#[tactic(auto, unfolding(crate::specs::Forms::decimal))]
-pub(crate) fn decimal(token: &[u8]) -> Option<()>
-    ensures { result ≡ decimal token.now }
+fn are_digits_and_point(bytes: &[u8]) -> bool
+    ensures { result ≡ are_digits_and_point bytes.now }
 {
-    let rest = after_sign(token);
-    if begins_with_digit(rest) && are_digits_and_fraction(rest) {
-        Some(())
-    } else {
-        None
-    }
+    are_digits_or_points(bytes) && points(bytes) <= 1
 }
 
 /// Whether each digit is 0.
@@ -125,13 +116,15 @@ fn is_zero(token: &[u8]) -> bool
     token.iter().all(|b| *b == b'0' || !is_digit(*b))
 }
 
-/// A decimal, and whether it is zero.
-#[tactic(auto, unfolding(crate::specs::Forms::angle))]
-pub(crate) fn angle(token: &[u8]) -> Option<bool>
-    ensures { result ≡ angle token.now }
+/// An optional sign, a digit, and digits with at most one '.'; and whether it is zero.
+#[tactic(auto, unfolding(crate::specs::Forms::decimal))]
+pub(crate) fn decimal(token: &[u8]) -> Option<bool>
+    ensures { result ≡ decimal token.now }
 {
-    match decimal(token) {
-        None => None,
-        Some(()) => Some(is_zero(token)),
+    let digits = after_sign(token);
+    if begins_with_digit(digits) && are_digits_and_point(digits) {
+        Some(is_zero(token))
+    } else {
+        None
     }
 }

@@ -8,8 +8,8 @@ ghost use Rattle.std.specs.Cmp.Lexicographic.{pointwise};
 ghost use Rattle.gf_plane.specs.Reach.{is_reached, is_within_reach};
 ghost use Rattle.gf_fig_tokens.specs.Layout.{tokens, plain, lines, plain_lines, after_resolution};
 ghost use Rattle.gf_fig_tokens.specs.Layout.{object_tokens};
-ghost use Rattle.gf_fig_tokens.specs.Forms.{whole, decimal, angle, colour};
-ghost use Rattle.gf_fig_tokens.specs.Fields.{StepsAs, any, natural, no_angle, coordinate, point};
+ghost use Rattle.gf_fig_tokens.specs.Forms.{whole, decimal, colour};
+ghost use Rattle.gf_fig_tokens.specs.Fields.{StepsAs, any, natural, coordinate, point};
 ghost use Rattle.gf_fig_tokens.specs.Stepping.{LeavesTokens};
 
 use crate::layout::{cut_line, cut_plain_line, cut_word, is_version};
@@ -103,34 +103,13 @@ impl<'a> Tokens<'a> {
         }
     }
 
-    /// A decimal of any value.
-    pub fn decimal(&mut self) -> Result<(), FigFault>
+    /// A decimal of any value, and whether it is zero.
+    pub fn decimal(&mut self) -> Result<bool, FigFault>
         ensures { StepsAs result self.new (any decimal self.old) }
     {
         match self.next_token() {
             None => Err(FigFault::Cut),
             Some(token) => forms::decimal(token).ok_or(FigFault::Token),
-        }
-    }
-
-    fn angle(&mut self) -> Result<bool, FigFault>
-        ensures { StepsAs result self.new (any angle self.old) }
-    {
-        match self.next_token() {
-            None => Err(FigFault::Cut),
-            Some(token) => forms::angle(token).ok_or(FigFault::Token),
-        }
-    }
-
-    /// An angle of zero.
-    #[tactic(auto, unfolding(crate::specs::Fields::no_angle))]
-    pub fn no_angle(&mut self) -> Result<(), FigFault>
-        ensures { StepsAs result self.new (no_angle self.old) }
-    {
-        if self.angle()? {
-            Ok(())
-        } else {
-            Err(FigFault::Angle)
         }
     }
 

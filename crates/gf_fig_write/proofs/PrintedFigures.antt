@@ -1,7 +1,8 @@
 -- Figures that are printed are read back.
 use Rattle.std.proofs.Common.{◌≡◌, ◌≤◌, ◌<◌, ℕ, ◌^◌, Bool, true, false, List, [], ◌∷◌, ◌++◌, length}
 use Rattle.std.proofs.Common.{Ok, refl, arith, lit<}
-use Rattle.std.specs.Prelude.{◌==◌, IsTrue, is_some, codes, flat_map, if◌then◌else◌}
+use Rattle.std.specs.Prelude.{◌==◌, nat_le, IsTrue, is_some, codes, flat_map}
+use Rattle.std.specs.Prelude.{if◌then◌else◌}
 use Rattle.std.specs.Fmt.{decimal}
 use Rattle.gf_shape.specs.declared.outline.Outline.{Outline}
 use Rattle.gf_shape.specs.declared.outline.Outline.TheVariants.{Chain, Disc, Oval}
@@ -13,8 +14,8 @@ use Rattle.gf_figures.specs.declared.figure.Figure.{Figure}
 use Rattle.gf_figures.specs.Colours.{rgb_of}
 use Rattle.gf_fig_tokens.specs.declared.faults.FigFault.TheVariants as fault
 use Rattle.gf_fig_tokens.specs.Layout.{Token}
-use Rattle.gf_fig_read.specs.Outlines.{ellipse}
-use Rattle.gf_fig_read.specs.Objects.{Drawn, ellipse_object, polyline_object, object}
+use Rattle.gf_fig_read.specs.Outlines.{chain, ellipse}
+use Rattle.gf_fig_read.specs.Objects.{Drawn, figure_object, object}
 use Rattle.gf_fig_write.proofs.PrintedNumbers.{whole_decimal}
 use Rattle.gf_fig_write.proofs.PrintedObjects.{natural_read, one_read, two_read, three_read}
 use Rattle.gf_fig_write.proofs.PrintedObjects.{style_words, style_read, count_words, point_words}
@@ -35,11 +36,11 @@ with_this d f = record d { figures = d.figures ++ f ∷ [] }
 
 circle_read : (d : Drawn) (r : Round) (c depth : ℕ) (rest : List Token) → IsTrue (is_round r)
     → c ≤ 543 → IsTrue (is_some (rgb_of d.table c)) → depth ≤ 999
-    → ellipse_object d (codes "3" ∷ style_words c depth ++ (disc_words r ++ rest)) ≡ Ok (
+    → figure_object 1 4 (λ t. ellipse (nat_le 3 t)) d (codes "3" ∷ style_words c depth ++ (disc_words r ++ rest)) ≡ Ok (
       with_this d (record { shape = Disc r; colour = c; depth = depth }),
       rest,
     )
-unfolding ellipse_object ellipse
+unfolding figure_object
 circle_read d r c depth rest h small known deep =
     rw (
       style_read d.table 1 4 3 (codes "3") c depth (disc_words r ++ rest) three_read (omega arith)
@@ -49,11 +50,11 @@ circle_read d r c depth rest h small known deep =
 
 ellipse_read : (d : Drawn) (o : Oblong) (c depth : ℕ) (rest : List Token) → IsTrue (is_oblong o)
     → c ≤ 543 → IsTrue (is_some (rgb_of d.table c)) → depth ≤ 999
-    → ellipse_object d (codes "1" ∷ style_words c depth ++ (oval_words o ++ rest)) ≡ Ok (
+    → figure_object 1 4 (λ t. ellipse (nat_le 3 t)) d (codes "1" ∷ style_words c depth ++ (oval_words o ++ rest)) ≡ Ok (
       with_this d (record { shape = Oval o; colour = c; depth = depth }),
       rest,
     )
-unfolding ellipse_object ellipse
+unfolding figure_object
 ellipse_read d o c depth rest h small known deep =
     rw (
       style_read d.table 1 4 1 (codes "1") c depth (oval_words o ++ rest) one_read (omega arith)
@@ -79,12 +80,12 @@ sub_is false = refl
 
 polyline_read : (d : Drawn) (r : Ring) (c depth : ℕ) (rest : List Token) → IsRing r → c ≤ 543
     → IsTrue (is_some (rgb_of d.table c)) → depth ≤ 999
-    → polyline_object d (decimal (if r.boxed then 2 else 3) ∷ style_words c
+    → figure_object 2 3 (λ t. chain (t == 2)) d (decimal (if r.boxed then 2 else 3) ∷ style_words c
     depth ++ (count_words (length r.points) ++ flat_map point_words r.points ++ rest)) ≡ Ok (
       with_this d (record { shape = Chain r; colour = c; depth = depth }),
       rest,
     )
-unfolding polyline_object
+unfolding figure_object
 polyline_read d r c depth rest h small known deep =
     let tail : List Token = count_words (length r.points) ++ flat_map point_words r.points ++ rest
     in

@@ -21,10 +21,10 @@ use Rattle.gf_figures.specs.DrawingState.{IsFreeNumber, is_table_number}
 use Rattle.gf_fig_tokens.specs.declared.faults.FigFault.{FigFault}
 use Rattle.gf_fig_tokens.specs.declared.faults.FigFault.TheVariants as fault
 use Rattle.gf_fig_tokens.specs.Layout.{Token}
-use Rattle.gf_fig_tokens.specs.Forms.{whole, decimal as decimal_form, angle}
-use Rattle.gf_fig_tokens.specs.Fields.{is_in, natural, no_angle, point, points}
+use Rattle.gf_fig_tokens.specs.Forms.{whole, decimal as decimal_form}
+use Rattle.gf_fig_tokens.specs.Fields.{is_in, natural, point, points}
 use Rattle.gf_fig_read.specs.Styles.{known_colour, filling, style}
-use Rattle.gf_fig_read.specs.Outlines.{same_point, is_closed, count, chain, disc, oval}
+use Rattle.gf_fig_read.specs.Outlines.{same_point, is_closed, count, chain, ellipse}
 use Rattle.gf_fig_read.specs.Objects.{Drawn, colour_object, object}
 use Rattle.gf_fig_write.proofs.PrintedNumbers.{whole_decimal, whole_signed, rgb_word, rgb_read}
 
@@ -54,17 +54,13 @@ twenty_read : whole (codes "20") ≡ Some (pos 20)
 unfolding whole
 twenty_read = refl
 
-three_places_read : decimal_form (codes "0.000") ≡ Some tt
+three_places_read : decimal_form (codes "0.000") ≡ Some true
 unfolding decimal_form
 three_places_read = refl
 
-four_places_read : decimal_form (codes "0.0000") ≡ Some tt
+four_places_read : decimal_form (codes "0.0000") ≡ Some true
 unfolding decimal_form
 four_places_read = refl
-
-no_angle_read : (rest : List Token) → no_angle (codes "0.0000" ∷ rest) ≡ Ok (tt, rest)
-unfolding no_angle angle decimal_form
-no_angle_read rest = refl
 
 -- ---- limits
 
@@ -259,8 +255,8 @@ disc_words r =
     (r.centre.x +ℤ pos r.radius) ∷ signed_decimal r.centre.y ∷ []
 
 pub disc_read : (r : Round) (rest : List Token) → IsTrue (is_round r)
-    → disc (disc_words r ++ rest) ≡ Ok (Disc r, rest)
-unfolding disc
+    → ellipse true (disc_words r ++ rest) ≡ Ok (Disc r, rest)
+unfolding ellipse
 disc_read r rest h =
     let p = and_parts (is_within_reach r.centre && nat_le 1 r.radius) (nat_le r.radius 10000000) h
     in
@@ -331,8 +327,8 @@ radius_read n rest least most = natural_read 1 10000000 n fault.Radius (decimal 
     (whole_decimal n (omega (arith, most))) least most
 
 pub oval_read : (o : Oblong) (rest : List Token) → IsTrue (is_oblong o)
-    → oval (oval_words o ++ rest) ≡ Ok (Oval o, rest)
-unfolding oval
+    → ellipse false (oval_words o ++ rest) ≡ Ok (Oval o, rest)
+unfolding ellipse
 oval_read o rest h =
     let l = limits o h in
     let x = o.centre.x in
@@ -343,7 +339,7 @@ oval_read o rest h =
     (x +ℤ pos o.rx) ∷ signed_decimal (y +ℤ pos o.ry) ∷ rest in
     rw (
       one_read,
-      no_angle_read (signed_decimal x ∷ signed_decimal y ∷ decimal o.rx ∷ decimal o.ry ∷ behind),
+      four_places_read,
       point_read o.centre (decimal o.rx ∷ decimal o.ry ∷ behind) l.near,
       radius_read o.rx (decimal o.ry ∷ behind) l.least_rx l.most_rx,
       radius_read o.ry behind l.least_ry l.most_ry,

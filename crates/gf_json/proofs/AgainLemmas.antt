@@ -14,11 +14,13 @@ use Rattle.gf_ops.specs.Limits.{is_site, is_id, is_clock, is_near, is_size, is_p
 use Rattle.gf_ops.specs.Limits.{is_colour}
 use Rattle.serde_json.specs.Data.{Data}
 use Rattle.serde_json.specs.View.{items_of}
-use Rattle.gf_json.specs.LineValues.{Got, and_then, whole_value, elements, array, each}
-use Rattle.gf_json.specs.LineLimits.{natural_value, coordinate_value, entry_value, name, size}
-use Rattle.gf_json.specs.LineLimits.{radius, level, clock}
-use Rattle.gf_json.specs.LineLimits.{point_value, points_value}
-use Rattle.gf_json.specs.LineColours.{hex_colour}
+use Rattle.gf_json.specs.LineValues.{Got, and_then}
+use Rattle.gf_json.specs.LineForms.{elements}
+use Rattle.gf_json.specs.StepValues.{whole_value, array, each}
+use Rattle.gf_json.specs.StepLimits.{natural_value, coordinate_value, entry_value, name, size}
+use Rattle.gf_json.specs.StepLimits.{radius, level, clock}
+use Rattle.gf_json.specs.StepLimits.{point_value, points_value}
+use Rattle.gf_json.specs.StepColours.{hex_colour}
 use Rattle.gf_json.specs.WrittenValues.{natural_data, integer_data, name_data, clock_data}
 use Rattle.gf_json.specs.WrittenValues.{point_data, points_data, size_data, colour_data}
 

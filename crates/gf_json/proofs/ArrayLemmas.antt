@@ -1,18 +1,16 @@
 -- Arrays of the length that is asked for, and of another.
-use Rattle.std.proofs.Common.{◌≡◌, ℕ, ◌≤◌, ◌<◌, List, [], ◌∷◌, length, refl, ap, arith, Ok, Err}
-use Rattle.std.proofs.Common.{Bool, true, false, ◌&&◌, nat_le, int_le, nat_abs, ◌==◌, pos, negsuc}
-use Rattle.std.proofs.Common.{ℤ, if◌then◌else◌, get_or}
+use Rattle.std.proofs.Common.{◌≡◌, ◌≤◌, ◌<◌, List, [], ◌∷◌, length, refl, ap, arith, Ok, Err}
+use Rattle.std.proofs.Common.{Bool, true}
+use Rattle.std.proofs.Common.{get_or}
 use Rattle.std.specs.List.{list_all}
 use Rattle.serde_json.specs.Data.{Data}
 use Rattle.serde_json.specs.declared.value.Value.{Value}
 use Rattle.serde_json.specs.View.{view, items_view}
 use Rattle.gf_json.specs.declared.line_error.LineError.TheVariants as fault
-use Rattle.gf_json.specs.LineValues.{Got, mapped, ◌&◌, each, elements, two_of, and_then}
-use Rattle.gf_json.specs.LineValues.{whole_value}
-use Rattle.gf_json.specs.LineLimits.{clock, entry_value}
-use Rattle.gf_ops.specs.declared.op.Clock.{Clock}
-use Rattle.gf_ops.specs.Limits.{is_clock}
-use Rattle.std.specs.Prelude.{IsTrue}
+use Rattle.gf_json.specs.LineValues.{Got, mapped}
+use Rattle.gf_json.specs.LineForms.{elements}
+use Rattle.gf_json.specs.StepValues.{◌&◌, each, two_of}
+use Rattle.gf_json.specs.StepLimits.{clock, entry_value}
 
 -- fewer than two
 pub two_of-short : (vs : List Value) → length vs < 2
@@ -94,18 +92,6 @@ clock_of_eight (v0 ∷ v1 ∷ v2 ∷ v3 ∷ v4 ∷ v5 ∷ v6 ∷ v7 ∷ []) a b 
     rw (p, q, r, s, t, u, v, w, each_of_eight entry_value) (mapped-mapped _ _ _)
 clock_of_eight vs a b c d e f g h l m p q r s t u v w = absurd (omega (arith, l, m))
 
--- a number that keeps its limit
-limited : (w : Got ℤ) (high n : ℕ)
-    → mapped nat_abs (and_then (λ z. if int_le (pos 0) z && int_le z (pos high) then Ok z else
-    Err fault.Range) w) ≡ Ok n → nat_le n high ≡ true
-limited (Err e) high n h = absurd cc
-limited (Ok (negsuc k)) high n h = absurd cc
-limited (Ok (pos k)) high n h = grind (arith, h)
-
--- an entry keeps its limit
-entry_value-within : (d : Data) (n : ℕ) → entry_value d ≡ Ok n → nat_le n 10000 ≡ true
-entry_value-within d n h = limited (whole_value d) 10000 n h
-
 -- what a mapped part is made of
 pub mapped-parts : {A B : Type 0} (f : A → B) (x : Got A) (b : B) → mapped f x ≡ Ok b
     → (a : A) × (x ≡ Ok a) × (f a ≡ b)
@@ -133,17 +119,3 @@ each-all p form t (d ∷ ds) found h =
     let (q, b, e) = mapped-parts (λ r. r.0 ∷ r.1) (form d & each form ds) found h in
     let parts = beside-parts (form d) (each form ds) q b in
     rw (← e, t d q.0 parts.0) (each-all p form t ds q.1 parts.1)
-
--- where the test fails, nothing is read
-passed : {A : Type 0} (test : Bool) (x : Got A) (a : A)
-    → (if test then x else Err fault.Field) ≡ Ok a → x ≡ Ok a
-passed true x a h = h
-passed false x a h = absurd cc
-
--- a clock that is read keeps its limits
-pub clock-within : (ds : List Data) (c : Clock) → clock ds ≡ Ok c → IsTrue (is_clock c)
-clock-within ds c h =
-    let (ns, e, g) = mapped-parts {A = List ℕ} {B = Clock} (λ ns. record { 0 = ns })
-    (each entry_value ds)
-    c (passed (length ds == 8) _ c h) in
-    let all = each-all (λ n. nat_le n 10000) entry_value entry_value-within ds ns e in rw (← g) all

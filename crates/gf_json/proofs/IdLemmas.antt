@@ -1,7 +1,7 @@
 -- The ids of an aim: what is read of them, and their order.
 use Rattle.std.proofs.Common.{◌≡◌, ℕ, ◌<◌, ◌+◌, ℤ, pos, negsuc, int_le, nat_abs, nat_le, List, []}
 use Rattle.std.proofs.Common.{◌∷◌, length, map, drop, get_or, refl, sym, ap, ◌∙◌, arith, Ok, Err}
-use Rattle.std.proofs.Common.{inl, inr, ◌⊎◌, if◌then◌else◌, true, false, ◌&&◌, ◌==◌, ◌≤◌, zero, suc}
+use Rattle.std.proofs.Common.{inl, inr, ◌⊎◌, if◌then◌else◌, true, false, ◌&&◌, ◌≤◌, zero, suc}
 use Rattle.std.specs.Prelude.{Some, None}
 use Rattle.std.specs.List.{list_all}
 use Rattle.std.specs.Ordering.{int_cmp, nat_cmp, is_lt}
@@ -16,9 +16,12 @@ use Rattle.serde_json.specs.declared.value.Value.{Value}
 use Rattle.serde_json.specs.View.{view, items_view}
 use Rattle.gf_json.specs.declared.line_error.LineError.{LineError}
 use Rattle.gf_json.specs.declared.line_error.LineError.TheVariants as fault
-use Rattle.gf_json.specs.LineValues.{Got, mapped, and_then, ◌&◌, whole_value, two, each, elements}
-use Rattle.gf_json.specs.LineLimits.{natural_value, name}
-use Rattle.gf_json.specs.LineAims.{numbers, pair_cmp, rising, aim_ids, ids}
+use Rattle.gf_json.specs.LineValues.{Got, mapped, and_then}
+use Rattle.gf_json.specs.LineForms.{elements}
+use Rattle.gf_json.specs.StepValues.{◌&◌, whole_value, two, each}
+use Rattle.gf_json.specs.StepLimits.{natural_value, name}
+use Rattle.gf_json.specs.LineForms.{pair_cmp}
+use Rattle.gf_json.specs.StepAims.{numbers, rising, aim_ids, ids}
 use Rattle.gf_json.specs.CheckedIds.{next_behind, rising_behind}
 use Rattle.gf_json.specs.WrittenValues.{name_data, ids_data}
 use Rattle.gf_json.proofs.ArrayLemmas.{mapped-parts, beside-parts, each-all, length-elements}

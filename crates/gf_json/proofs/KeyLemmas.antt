@@ -1,6 +1,6 @@
 -- Keys, and what a line denotes.
 use Rattle.std.proofs.Common.{◌≡◌, ℕ, List, [], ◌∷◌, ◌++◌, length, refl, arith, Ok, Err, Bool, true}
-use Rattle.std.proofs.Common.{false, ◌&&◌, inl, inr, ◌⊎◌}
+use Rattle.std.proofs.Common.{false, ◌&&◌, inl, inr, ◌⊎◌, ◌∙◌}
 use Rattle.std.proofs.lemmas.Bool.{cases_Bool}
 use Rattle.std.specs.Prelude.{Some, None, String, IsUtf8}
 use Rattle.std.specs.declared.alloc.Global.{Global}
@@ -45,14 +45,14 @@ json-refused line r = elim (cases_Bool (is_utf8 line)) [
   | inr u ↦ rw u refl
 ]
 
--- what a line denotes, where memory serves
-pub denoted_by : {A B : Type 0} (f : Data → Got A) (line : List ℕ) (d : Data) (b : B) (v : Got B)
-    (r : Got A) → v ≡ Ok b
+-- what a line denotes, where memory serves; f reads its value part by part, and g says what it is
+pub denoted_by : {A B : Type 0} (f g : Data → Got A) → ((d : Data) → f d ≡ g d) → (line : List ℕ)
+    (d : Data) (b : B) (v : Got B) (r : Got A) → v ≡ Ok b
     → (v ≡ Err fault.OutOfMemory) ⊎ (Ok d ≡ json line) → (r ≡ Err fault.OutOfMemory) ⊎ (r ≡ f d)
-    → (r ≡ Err fault.OutOfMemory) ⊎ (r ≡ and_then f (json line))
-denoted_by f line d b v r k (inl m) n = absurd cc
-denoted_by f line d b v r k (inr e) (inl m) = inl m
-denoted_by f line d b v r k (inr e) (inr w) = inr (rw (← e) w)
+    → (r ≡ Err fault.OutOfMemory) ⊎ (r ≡ and_then g (json line))
+denoted_by f g same line d b v r k (inl m) n = absurd cc
+denoted_by f g same line d b v r k (inr e) (inl m) = inl m
+denoted_by f g same line d b v r k (inr e) (inr w) = inr (rw (← e) (w ∙ same d))
 
 -- and the fault of a line that is no JSON
 pub denoted_fault : {A B : Type 0} (f : Data → Got A) (line : List ℕ) (e : LineError) (v : Got B)

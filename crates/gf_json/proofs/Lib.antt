@@ -1,5 +1,8 @@
 pub mod ArrayLemmas
 pub mod KeyLemmas
+pub mod FormLemmas
+pub mod FormListLemmas
+pub mod FormLineLemmas
 pub mod PointLemmas
 pub mod IdLemmas
 pub mod WrittenLemmas

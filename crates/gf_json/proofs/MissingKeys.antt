@@ -17,15 +17,16 @@ use Rattle.gf_ops.specs.declared.change.Change.{Change}
 use Rattle.gf_json.specs.declared.line_error.LineError.TheVariants as fault
 use Rattle.serde_json.specs.Data.{Data, Members}
 use Rattle.serde_json.specs.Find.{get, as_str, as_object}
-use Rattle.gf_json.specs.LineValues.{Got, and_then, fault_beside, ◌&◌}
-use Rattle.gf_json.specs.LineFields.{at, id, past, site, object_member, aim, place_member, box_size}
-use Rattle.gf_json.specs.LineFields.{circle_size}
-use Rattle.gf_json.specs.LineFields.{ellipse_size, polygon_points, colour_member, layer, shown}
+use Rattle.gf_json.specs.LineValues.{Got, and_then}
+use Rattle.gf_json.specs.StepValues.{fault_beside, ◌&◌}
+use Rattle.gf_json.specs.StepFields.{at, id, past, site, object_member, aim, place_member, box_size}
+use Rattle.gf_json.specs.StepFields.{circle_size}
+use Rattle.gf_json.specs.StepFields.{ellipse_size, polygon_points, colour_member, layer, shown}
 use Rattle.gf_json.specs.LineKeys.{op_keys, author_keys, create_keys, set_keys, aimed_keys}
 use Rattle.gf_json.specs.LineKeys.{await_keys, has_count, has_exactly, is_word, says, member_count}
-use Rattle.gf_json.specs.LineChanges.{new_value, named_value, creation, setting, change}
-use Rattle.gf_json.specs.OperationLines.{op_with, op_of}
-use Rattle.gf_json.specs.ScriptLines.{authored, awaited, script_of}
+use Rattle.gf_json.specs.StepChanges.{new_value, named_value, creation, setting, change}
+use Rattle.gf_json.specs.StepLines.{op_with, op_of}
+use Rattle.gf_json.specs.StepLines.{authored, awaited, script_of}
 use Rattle.gf_json.specs.ReadChanges.{tells, read_change}
 use Rattle.gf_json.proofs.KeyLemmas.{list_all-append}
 use Rattle.gf_json.proofs.AgainLemmas.{both_true}

@@ -16,14 +16,15 @@ use Rattle.gf_ops.specs.declared.change.Value.TheVariants as value
 use Rattle.gf_ops.specs.Limits.{is_id, is_clock, is_near, is_form, is_layer, is_colour, is_value}
 use Rattle.gf_ops.specs.Limits.{is_aim, is_change, IsInRange}
 use Rattle.serde_json.specs.Data.{Data}
-use Rattle.gf_json.specs.LineValues.{Got, mapped, and_then, ◌&◌, array}
-use Rattle.gf_json.specs.LineLimits.{name, clock}
-use Rattle.gf_json.specs.LineFields.{id, past, object_member, aim, place_member, box_size}
-use Rattle.gf_json.specs.LineFields.{circle_size}
-use Rattle.gf_json.specs.LineFields.{ellipse_size, polygon_points, colour_member, layer, shown}
+use Rattle.gf_json.specs.LineValues.{Got, mapped, and_then}
+use Rattle.gf_json.specs.StepValues.{◌&◌, array}
+use Rattle.gf_json.specs.StepLimits.{name, clock}
+use Rattle.gf_json.specs.StepFields.{id, past, object_member, aim, place_member, box_size}
+use Rattle.gf_json.specs.StepFields.{circle_size}
+use Rattle.gf_json.specs.StepFields.{ellipse_size, polygon_points, colour_member, layer, shown}
 use Rattle.gf_json.specs.LineKeys.{op_keys}
-use Rattle.gf_json.specs.LineChanges.{change, new_value}
-use Rattle.gf_json.specs.OperationLines.{op_of}
+use Rattle.gf_json.specs.StepChanges.{change, new_value}
+use Rattle.gf_json.specs.StepLines.{op_of}
 use Rattle.gf_json.specs.WrittenValues.{name_data, clock_data}
 use Rattle.gf_json.specs.WrittenLines.{creation_data, setting_data, change_data, data_of}
 use Rattle.gf_json.proofs.IdLemmas.{ids_again}

@@ -1,24 +1,21 @@
 -- The points of a polygon, and what is read of them.
-use Rattle.std.proofs.Common.{◌≡◌, ℕ, ◌≤◌, ◌+◌, ◌-◌, ℤ, List, [], ◌∷◌, length, map, drop, get_or}
-use Rattle.std.proofs.Common.{refl, sym, subst, ◌∙◌, arith, Ok, Err, inl, inr, if◌then◌else◌, true}
-use Rattle.std.proofs.Common.{◌&&◌, int_le, pos, negsuc}
+use Rattle.std.proofs.Common.{◌≡◌, ℕ, ◌≤◌, ◌+◌, ◌-◌, List, [], ◌∷◌, length, map, drop, get_or}
+use Rattle.std.proofs.Common.{refl, sym, ◌∙◌, arith, Ok, Err}
 use Rattle.std.specs.Prelude.{All, IsOk, ⊤}
-use Rattle.std.specs.List.{list_all}
-use Rattle.std.proofs.lemmas.Bool.{cases_Bool}
 use Rattle.std.proofs.lemmas.List.{drop_more}
 use Rattle.std.proofs.lemmas.List.Elements.{All-nil, All-cons}
 use Rattle.gf_plane.specs.declared.point.Point.{Point}
-use Rattle.gf_plane.specs.PointCounts.{is_polygon_count}
-use Rattle.gf_ops.specs.Limits.{is_near, is_polygon}
 use Rattle.serde_json.specs.Data.{Data}
 use Rattle.serde_json.specs.declared.value.Value.{Value}
 use Rattle.serde_json.specs.View.{view, items_view}
 use Rattle.gf_json.specs.declared.line_error.LineError.{LineError}
 use Rattle.gf_json.specs.declared.line_error.LineError.TheVariants as fault
-use Rattle.gf_json.specs.LineValues.{Got, mapped, and_then, ◌&◌, each, elements, two, whole_value}
-use Rattle.gf_json.specs.LineLimits.{coordinate_value, point_value, counted, points_of}
+use Rattle.gf_json.specs.LineValues.{Got, mapped}
+use Rattle.gf_json.specs.LineForms.{elements}
+use Rattle.gf_json.specs.StepValues.{◌&◌, each}
+use Rattle.gf_json.specs.StepLimits.{point_value, counted, points_of}
 use Rattle.gf_json.specs.CheckedPoints.{checked}
-use Rattle.gf_json.proofs.ArrayLemmas.{mapped-parts, beside-parts, beside-mapped, each-all}
+use Rattle.gf_json.proofs.ArrayLemmas.{mapped-parts, beside-parts, beside-mapped}
 use Rattle.gf_json.proofs.ArrayLemmas.{length-elements}
 
 -- ---- one value after the other, from the last to the first
@@ -108,48 +105,6 @@ points_of-refused vs e h =
     rw (length-elements vs) (mapped-fault _ (λ p. p.1)
     (counted (length vs) & each point_value (elements (items_view vs))) e both)
 
--- ---- limits
-
--- a coordinate that is read is near
-near : (w : Got ℤ) (n : ℤ)
-    → and_then (λ z. if int_le (negsuc 999999) z && int_le z (pos 1000000) then Ok z else
-    Err fault.Range) w ≡ Ok n
-    → (int_le (negsuc 999999) n && int_le n (pos 1000000)) ≡ true
-near (Err e) n h = absurd cc
-near (Ok z) n h = elim (cases_Bool (int_le (negsuc 999999) z && int_le z (pos 1000000))) [
-  | inl t ↦ let e : z ≡ n = cc in rw (← e) t
-  | inr f ↦ absurd cc
-]
-
--- a point whose coordinates are near is near
-is_near-parts : (p : Point) → (int_le (negsuc 999999) p.x && int_le p.x (pos 1000000)) ≡ true
-    → (int_le (negsuc 999999) p.y && int_le p.y (pos 1000000)) ≡ true → is_near p ≡ true
-unfolding is_near
-is_near-parts p h k = grind (arith, h, k)
-
--- what was read first
-and_then-parts : {A B : Type 0} (f : A → Got B) (x : Got A) (b : B) → and_then f x ≡ Ok b
-    → (a : A) × (f a ≡ Ok b)
-and_then-parts f (Ok a) b h = (a, h)
-and_then-parts f (Err e) b h = absurd cc
-
--- a point that is read is near
-point_value-near : (d : Data) (p : Point) → point_value d ≡ Ok p → is_near p ≡ true
-point_value-near d p h =
-    let (q, b, e) = mapped-parts {A = ℤ × ℤ} {B = Point} (λ q. record { x = q.0; y = q.1 })
-    (and_then (λ r. coordinate_value r.0 & coordinate_value r.1) (two d)) p h in
-    let (r, c) = and_then-parts (λ r. coordinate_value r.0 & coordinate_value r.1) (two d) q b in
-    let parts = beside-parts (coordinate_value r.0) (coordinate_value r.1) q c in
-    rw (← e) (is_near-parts (record { x = q.0; y = q.1 }) (near (whole_value r.0) q.0 parts.0)
-    (near (whole_value r.1) q.1 parts.1))
-
--- a count that is read is one of a polygon
-counted-within : (n m : ℕ) → counted n ≡ Ok m → is_polygon_count n ≡ true
-counted-within n m h = elim (cases_Bool (is_polygon_count n)) [
-  | inl t ↦ t
-  | inr f ↦ absurd (let e = rw f at h in cc)
-]
-
 -- as many are read as there are
 pub length-each : {A : Type 0} (form : Data → Got A) (ds : List Data) (found : List A)
     → each form ds ≡ Ok found → length found ≡ length ds
@@ -159,22 +114,5 @@ length-each form (d ∷ ds) found h =
     let parts = beside-parts (form d) (each form ds) q b in
     let i = length-each form ds q.1 parts.1 in
     rw (← e) (omega (arith, i))
-
--- as many points as a polygon has, all of them near
-is_polygon-parts : (ps : List Point) (n : ℕ) → length ps ≡ n → is_polygon_count n ≡ true
-    → list_all is_near ps ≡ true → is_polygon ps ≡ true
-is_polygon-parts ps n e t h = rw (e, t) h
-
--- points that are read keep the limits
-pub points_of-within : (ds : List Data) (ps : List Point) → points_of ds ≡ Ok ps
-    → is_polygon ps ≡ true
-points_of-within ds ps h =
-    let (q, b, e) = mapped-parts {A = ℕ × List Point} {B = List Point} (λ p. p.1)
-    (counted (length ds) & each point_value ds) ps h in
-    let parts = beside-parts (counted (length ds)) (each point_value ds) q b in
-    let all = each-all is_near point_value point_value-near ds q.1 parts.1 in
-    subst (λ (rs : List Point). is_polygon rs ≡ true) e
-    (is_polygon-parts q.1 (length ds) (length-each point_value ds q.1 parts.1)
-    (counted-within (length ds) q.0 parts.0) all)
 
 pub ruleset refusals = (points_of-refused)

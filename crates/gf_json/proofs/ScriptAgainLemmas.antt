@@ -14,11 +14,13 @@ use Rattle.gf_json.specs.declared.scripts.Command.{Command}
 use Rattle.gf_json.specs.declared.scripts.Command.TheVariants.{Author, Await}
 use Rattle.gf_json.specs.declared.scripts.ScriptLine.{ScriptLine}
 use Rattle.serde_json.specs.Data.{null}
-use Rattle.gf_json.specs.LineValues.{Got, mapped, ◌&◌}
-use Rattle.gf_json.specs.LineFields.{id, site}
+use Rattle.gf_json.specs.LineValues.{Got, mapped}
+use Rattle.gf_json.specs.StepValues.{◌&◌}
+use Rattle.gf_json.specs.StepFields.{id, site}
 use Rattle.gf_json.specs.LineKeys.{op_keys, author_keys}
-use Rattle.gf_json.specs.LineChanges.{change}
-use Rattle.gf_json.specs.ScriptLines.{is_command, IsScriptInRange, authored, script_of}
+use Rattle.gf_json.specs.StepChanges.{change}
+use Rattle.gf_json.specs.StepLines.{authored, script_of}
+use Rattle.gf_json.specs.ScriptLines.{is_command, IsScriptInRange}
 use Rattle.gf_json.specs.WrittenLines.{creation_data, setting_data, change_data}
 use Rattle.gf_json.specs.WrittenScripts.{script_data}
 use Rattle.gf_json.proofs.AgainLemmas.{both_true, name_again, site_again}

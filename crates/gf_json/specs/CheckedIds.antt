@@ -4,7 +4,7 @@ use Rattle.std.specs.Prelude.{if◌then◌else◌}
 use Rattle.std.specs.Ordering.{is_lt}
 use Rattle.gf_ops.specs.OperationOrder.{rises}
 use Rattle.gf_json.specs.LineValues.{Got}
-use Rattle.gf_json.specs.LineAims.{pair_cmp}
+use Rattle.gf_json.specs.LineForms.{pair_cmp}
 
 -- the pair p and those that were read rise, each once
 abbrev pub rising_behind : ℤ × ℤ → Got (List (ℤ × ℤ)) → Bool

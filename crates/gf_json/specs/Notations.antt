@@ -1,5 +1,5 @@
 -- A line of JSON (RFC 8259 by serde_json's compact text).
-use Rattle.std.specs.Prelude.{ℕ, List, [], ◌∷◌, ◌++◌, codes}
+use Rattle.std.specs.Prelude.{ℕ, List, ◌++◌, codes}
 use Rattle.serde_json.specs.Data.{Data, object, no_members}
 use Rattle.serde_json.specs.Written.{compact_text}
 use Rattle.gf_json.specs.WrittenMembers.{put_all}

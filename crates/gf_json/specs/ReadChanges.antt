@@ -1,4 +1,5 @@
--- The change of a line, by the number of its keys and by its words alone (this project's choice).
+-- The change of a line, by the number of its keys and by its words alone. No public clause cites
+-- this module.
 use Rattle.std.specs.Prelude.{ℕ, ◌+◌, Bool, ◌&&◌, List, [], Ok, Err, codes}
 use Rattle.std.specs.Prelude.{if◌then◌else◌}
 use Rattle.gf_ops.specs.declared.change.Change.{Change}
@@ -6,9 +7,9 @@ use Rattle.gf_json.specs.declared.line_error.LineError.TheVariants as fault
 use Rattle.serde_json.specs.Data.{Data}
 use Rattle.serde_json.specs.Find.{as_object}
 use Rattle.gf_json.specs.LineValues.{Got}
-use Rattle.gf_json.specs.LineFields.{aim, box_size, circle_size, ellipse_size, polygon_points}
+use Rattle.gf_json.specs.StepFields.{aim, box_size, circle_size, ellipse_size, polygon_points}
 use Rattle.gf_json.specs.LineKeys.{has_count, says}
-use Rattle.gf_json.specs.LineChanges.{new_value, creation, setting}
+use Rattle.gf_json.specs.StepChanges.{new_value, creation, setting}
 
 -- the line has this many keys, and this word as its verb
 abbrev pub tells : ℕ → List ℕ → List ℕ → Data → Bool

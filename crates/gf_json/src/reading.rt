@@ -5,11 +5,14 @@ ghost use Rattle.serde_json.specs.View.{view};
 ghost use Rattle.gf_ops.specs.Limits.{IsInRange, is_aim, is_change};
 ghost use Rattle.gf_json.specs.LineValues.{mapped};
 ghost use Rattle.gf_json.specs.LineKeys.{author_keys};
-ghost use Rattle.gf_json.specs.LineChanges.{change};
-ghost use Rattle.gf_json.specs.OperationLines.{json, op_with, op_of, denoted};
-ghost use Rattle.gf_json.specs.ScriptLines.{authored, awaited, script_of, script_denoted};
+ghost use Rattle.gf_json.specs.StepChanges.{change};
+ghost use Rattle.gf_json.specs.StepLines.{op_with, op_of};
+ghost use Rattle.gf_json.specs.OperationLines.{json, denoted};
+ghost use Rattle.gf_json.specs.StepLines.{authored, awaited, script_of};
+ghost use Rattle.gf_json.specs.ScriptLines.{script_denoted};
 ghost use Rattle.gf_json.specs.ScriptLines.{IsScriptInRange};
-ghost use Rattle.gf_json.specs.KeepLines.{IsKeepInRange, keep_denoted, keep_of, kept, kept_with};
+ghost use Rattle.gf_json.specs.StepLines.{keep_of, kept, kept_with};
+ghost use Rattle.gf_json.specs.KeepLines.{IsKeepInRange, keep_denoted};
 
 mod aims;
 mod changes;

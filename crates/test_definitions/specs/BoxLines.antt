@@ -7,6 +7,7 @@ use Rattle.gf_ops.specs.declared.op.Op.{Op}
 use Rattle.gf_ops.specs.declared.change.Form.{Form}
 use Rattle.gf_ops.specs.declared.change.Form.TheVariants.{Rect}
 use Rattle.gf_ops.specs.declared.change.Change.TheVariants.{Create}
+use Rattle.gf_ops.specs.Limits.{is_near}
 use Rattle.gf_json.specs.declared.line_error.LineError.TheVariants as fault
 use Rattle.gf_json.specs.OperationLines.{denoted}
 use Rattle.serde_json.proofs.OnLiterals.{serde_json_on_literals}
@@ -33,7 +34,7 @@ pub red_box_read : denoted
     (codes "{\"colour\":\"ff0000\",\"id\":[1,1],\"kind\":\"box\",\"layer\":0,"
     ++ codes "\"op\":\"create\",\"past\":[0,0,0,0,0,0,0,0],\"place\":[100,200],"
     ++ codes "\"shown\":true,\"size\":[300,400]}") ≡ Ok red_box
-unfolding serde_json_on_literals digits is_utf8 chars
+unfolding serde_json_on_literals digits is_utf8 chars is_near
 red_box_read = refl
 
 -- a line in another order and with upper-case digits
@@ -49,13 +50,13 @@ zeros = codes "[0,0,0,0,0,0,0,0]"
 
 pub red_box_written_otherwise : denoted
     (line (codes "[1, 1]") zeros (codes "0") (codes "[300,400]")) ≡ Ok red_box
-unfolding serde_json_on_literals digits is_utf8 chars
+unfolding serde_json_on_literals digits is_utf8 chars is_near
 red_box_written_otherwise = refl
 
 -- of a repeated key the last value stands
 pub the_last_layer_stands : denoted
     (line (codes "[1,1]") zeros (codes "9999,\"layer\":0") (codes "[300,400]")) ≡ Ok red_box
-unfolding serde_json_on_literals digits is_utf8 chars
+unfolding serde_json_on_literals digits is_utf8 chars is_near
 the_last_layer_stands = refl
 
 -- a line of the red box on the layer of this text
@@ -64,7 +65,7 @@ layered layer = line (codes "[1,1]") zeros layer (codes "[300,400]")
 
 pub layers_beyond_the_limits : map denoted
     (layered (codes "10000") ∷ layered (codes "-1") ∷ []) ≡ replicate 2 (Err fault.Range)
-unfolding serde_json_on_literals digits is_utf8 chars
+unfolding serde_json_on_literals digits is_utf8 chars is_near
 layers_beyond_the_limits = refl
 
 -- serde_json reads -0 as a float; the fourth is 2 ^ 63, and behind the last stands another key

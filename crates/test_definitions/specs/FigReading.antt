@@ -7,11 +7,11 @@ use Rattle.gf_plane.specs.Reach.{is_reached}
 use Rattle.gf_figures.specs.Colours.{rgb}
 use Rattle.gf_fig_tokens.specs.declared.faults.FigFault.TheVariants as fault
 use Rattle.gf_fig_tokens.specs.Layout.{object_tokens}
-use Rattle.gf_fig_tokens.specs.Forms.{whole, decimal, colour, angle}
-use Rattle.gf_fig_tokens.specs.Fields.{natural, no_angle, point, points}
+use Rattle.gf_fig_tokens.specs.Forms.{whole, decimal, colour}
+use Rattle.gf_fig_tokens.specs.Fields.{natural, point, points}
 use Rattle.gf_fig_read.specs.Styles.{known_colour, filling, style}
-use Rattle.gf_fig_read.specs.Outlines.{count, chain, disc, oval, ellipse}
-use Rattle.gf_fig_read.specs.Objects.{Drawn, object, colour_object, ellipse_object, polyline_object}
+use Rattle.gf_fig_read.specs.Outlines.{count, chain, ellipse}
+use Rattle.gf_fig_read.specs.Objects.{Drawn, object, colour_object, figure_object}
 use Rattle.gf_fig_read.specs.FigGrammar.{Reads, Fails, nothing}
 use Rattle.gf_fig_read.specs.Computed.{outcome_of, objects_of}
 use Rattle.gf_fig_read.proofs.GrammarLemmas.{reads_by, fails_by}
@@ -64,7 +64,7 @@ triangle = record {
 }
 
 pub a_triangle : Reads triangle_text triangle
-unfolding outcome_of objects_of object_tokens object natural polyline_object known_colour filling
+unfolding outcome_of objects_of object_tokens object natural figure_object known_colour filling
     style count chain point points whole decimal is_reached
 a_triangle = reads_by triangle_text triangle refl
 
@@ -83,7 +83,7 @@ cut_text = front ++ codes "2 3 0 0 4 4 50 -1 20 0.000 0 0 -1 0 0 4\n\t 0 0 1200 
 
 pub no_triangles : Fails open_text fault.SubType 1 × Fails unknown_text fault.NoColour 1
     × Fails cut_text fault.Cut 1
-unfolding outcome_of objects_of object_tokens object natural polyline_object known_colour filling
+unfolding outcome_of objects_of object_tokens object natural figure_object known_colour filling
     style count chain point points whole decimal is_reached
 no_triangles = (
   fails_by open_text fault.SubType 1 refl,
@@ -104,8 +104,8 @@ circle = record {
 }
 
 pub a_circle : Reads circle_text circle
-unfolding outcome_of objects_of object_tokens object natural colour_object ellipse_object
-    known_colour filling style ellipse disc point whole decimal colour is_reached
+unfolding outcome_of objects_of object_tokens object natural colour_object figure_object
+    known_colour filling style ellipse point whole decimal colour is_reached
 a_circle = reads_by circle_text circle refl
 
 abbrev pub unequal_text : List ℕ
@@ -116,8 +116,8 @@ late_text = circle_text ++ codes "0 33 #00ff00\n"
 
 pub unequal_radii_and_a_late_colour : Fails unequal_text fault.Radius 2
     × Fails late_text fault.LateColour 3
-unfolding outcome_of objects_of object_tokens object natural colour_object ellipse_object
-    known_colour filling style ellipse disc point whole decimal colour is_reached
+unfolding outcome_of objects_of object_tokens object natural colour_object figure_object
+    known_colour filling style ellipse point whole decimal colour is_reached
 unequal_radii_and_a_late_colour =
     (fails_by unequal_text fault.Radius 2 refl, fails_by late_text fault.LateColour 3 refl)
 
@@ -148,8 +148,8 @@ flat = record {
 -- by radii and by diameters
 pub ovals : Reads (oval_text (codes "1") (codes "-0.000")) flat
     × Reads (oval_text (codes "2") (codes "0")) flat
-unfolding outcome_of objects_of object_tokens object natural ellipse_object known_colour filling
-    style ellipse oval no_angle point whole decimal angle is_reached
+unfolding outcome_of objects_of object_tokens object natural figure_object known_colour filling
+    style ellipse point whole decimal is_reached
 ovals = (
   reads_by (oval_text (codes "1") (codes "-0.000")) flat refl,
   reads_by (oval_text (codes "2") (codes "0")) flat refl,
@@ -162,8 +162,8 @@ flattened_text = head ++ codes "1 1 0 0 4 4 50 -1 20 0.000 1 0 0 0 3 0 0 0 3 0\n
 pub no_ovals : Fails (oval_text (codes "1") (codes "0.5000")) fault.Angle 1
     × Fails (oval_text (codes "5") (codes "0")) fault.SubType 1
     × Fails flattened_text fault.Radius 1
-unfolding outcome_of objects_of object_tokens object natural ellipse_object known_colour filling
-    style ellipse oval no_angle point whole decimal angle is_reached
+unfolding outcome_of objects_of object_tokens object natural figure_object known_colour filling
+    style ellipse point whole decimal is_reached
 no_ovals = (
   fails_by (oval_text (codes "1") (codes "0.5000")) fault.Angle 1 refl,
   fails_by (oval_text (codes "5") (codes "0")) fault.SubType 1 refl,

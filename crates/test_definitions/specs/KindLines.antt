@@ -4,6 +4,7 @@ use Rattle.std.specs.Prelude.{Ok, Err, refl, codes, pos, negsuc}
 use Rattle.std.specs.Str.{is_utf8, chars}
 use Rattle.std.specs.Fmt.{digits}
 use Rattle.gf_ops.specs.declared.change.Form.TheVariants.{Polygon, Circle, Ellipse}
+use Rattle.gf_ops.specs.Limits.{is_near}
 use Rattle.gf_json.specs.declared.line_error.LineError.TheVariants as fault
 use Rattle.gf_json.specs.OperationLines.{denoted}
 use Rattle.test_definitions.specs.BoxLines.{red}
@@ -18,7 +19,7 @@ shaped kind shape =
 
 pub red_circle_read : denoted (shaped (codes "circle") (codes "\"size\":[7,7]"))
     ≡ Ok (red (Circle 7))
-unfolding serde_json_on_literals digits is_utf8 chars
+unfolding serde_json_on_literals digits is_utf8 chars is_near
 red_circle_read = refl
 
 -- the two numbers of a circle are its radius
@@ -31,14 +32,14 @@ unequal_circles = refl
 
 pub red_ellipse_read : denoted (shaped (codes "ellipse") (codes "\"size\":[3,2]"))
     ≡ Ok (red (Ellipse 3 2))
-unfolding serde_json_on_literals digits is_utf8 chars
+unfolding serde_json_on_literals digits is_utf8 chars is_near
 red_ellipse_read = refl
 
 pub red_polygon_read : denoted
     (shaped (codes "polygon") (codes "\"points\":[[0,0],[10,-20],[0,30]]"))
     ≡ Ok (red (Polygon (record { x = pos 0; y = pos 0 } ∷ record { x = pos 10; y = negsuc 19 }
     ∷ record { x = pos 0; y = pos 30 } ∷ [])))
-unfolding serde_json_on_literals digits is_utf8 chars
+unfolding serde_json_on_literals digits is_utf8 chars is_near
 red_polygon_read = refl
 
 -- no radius, no height, and two points

@@ -5,6 +5,7 @@ use Rattle.std.specs.Str.{is_utf8, chars}
 use Rattle.std.specs.Fmt.{digits}
 use Rattle.gf_ops.specs.declared.change.Form.TheVariants.{Rect}
 use Rattle.gf_ops.specs.declared.change.Change.TheVariants.{Create, Set}
+use Rattle.gf_ops.specs.Limits.{is_near}
 use Rattle.gf_json.specs.declared.line_error.LineError.TheVariants as fault
 use Rattle.gf_json.specs.declared.scripts.Command.TheVariants.{Author, Await}
 use Rattle.gf_json.specs.OperationLines.{denoted}
@@ -25,7 +26,7 @@ pub create_read : script_denoted
         shown = true;
       }));
     })
-unfolding serde_json_on_literals digits is_utf8 chars
+unfolding serde_json_on_literals digits is_utf8 chars is_near
 create_read = refl
 
 pub await_read : script_denoted (codes "{\"site\":2,\"do\":\"await\",\"id\":[1,1]}")

@@ -8,6 +8,7 @@ use Rattle.gf_ops.specs.declared.op.OpId.{OpId}
 use Rattle.gf_ops.specs.declared.change.Change.TheVariants.{Set}
 use Rattle.gf_ops.specs.declared.change.Value.{Value}
 use Rattle.gf_ops.specs.declared.change.Value.TheVariants as value
+use Rattle.gf_ops.specs.Limits.{is_near}
 use Rattle.gf_json.specs.declared.line_error.LineError.TheVariants as fault
 use Rattle.gf_json.specs.OperationLines.{denoted}
 use Rattle.serde_json.proofs.OnLiterals.{serde_json_on_literals}
@@ -42,7 +43,7 @@ line object attribute to =
 
 pub place_read : denoted (line (codes "[1,1]") (codes "place") (codes "[-5,0]"))
     ≡ Ok (sets_to (value.Place (record { x = negsuc 4; y = pos 0 })))
-unfolding serde_json_on_literals digits is_utf8 chars
+unfolding serde_json_on_literals digits is_utf8 chars is_near
 place_read = refl
 
 pub points_read : denoted (line (codes "[1,1]") (codes "points") (codes "[[0,0],[1,0],[0,1]]"))
@@ -50,7 +51,7 @@ pub points_read : denoted (line (codes "[1,1]") (codes "points") (codes "[[0,0],
       x = pos 1;
       y = pos 0;
     } ∷ record { x = pos 0; y = pos 1 } ∷ [])))
-unfolding serde_json_on_literals digits is_utf8 chars
+unfolding serde_json_on_literals digits is_utf8 chars is_near
 points_read = refl
 
 -- a line is read whether or not the value suits the object

@@ -4,9 +4,12 @@ ghost use Rattle.std.specs.Prelude.{◌≡◌, ◌⊎◌, Err, IfOk, IsTrue};
 ghost use Rattle.std.specs.Ordering.{is_lt};
 ghost use Rattle.serde_json.specs.View.{view, items_view};
 ghost use Rattle.gf_ops.specs.Limits.{is_aim};
-ghost use Rattle.gf_json.specs.LineValues.{mapped, elements, each};
-ghost use Rattle.gf_json.specs.LineLimits.{name};
-ghost use Rattle.gf_json.specs.LineAims.{numbers, pair_cmp, rising, aim_ids, ids};
+ghost use Rattle.gf_json.specs.LineValues.{mapped};
+ghost use Rattle.gf_json.specs.LineForms.{elements};
+ghost use Rattle.gf_json.specs.StepValues.{each};
+ghost use Rattle.gf_json.specs.StepLimits.{name};
+ghost use Rattle.gf_json.specs.LineForms.{pair_cmp};
+ghost use Rattle.gf_json.specs.StepAims.{numbers, rising, aim_ids, ids};
 ghost use Rattle.gf_json.specs.CheckedIds.{next_behind, rising_behind};
 
 use crate::LineError;

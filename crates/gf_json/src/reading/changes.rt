@@ -4,9 +4,9 @@ ghost use Rattle.std.specs.Prelude.{◌≡◌, ◌≤◌, ◌⊎◌, ◌&&◌, [
 ghost use Rattle.serde_json.specs.View.{view};
 ghost use Rattle.gf_ops.specs.Limits.{is_aim, is_change, is_colour, is_form, is_layer, is_start};
 ghost use Rattle.gf_ops.specs.Limits.{is_value};
-ghost use Rattle.gf_json.specs.LineValues.{◌&◌};
-ghost use Rattle.gf_json.specs.LineFields.{aim, polygon_points, colour_member, layer, shown};
-ghost use Rattle.gf_json.specs.LineChanges.{start, named_value, new_value, creation, setting};
+ghost use Rattle.gf_json.specs.StepValues.{◌&◌};
+ghost use Rattle.gf_json.specs.StepFields.{aim, polygon_points, colour_member, layer, shown};
+ghost use Rattle.gf_json.specs.StepChanges.{start, named_value, new_value, creation, setting};
 ghost use Rattle.gf_json.specs.ReadChanges.{named_creation, read_change};
 
 use crate::LineError;

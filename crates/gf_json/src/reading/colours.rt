@@ -3,7 +3,7 @@
 ghost use Rattle.std.specs.Prelude.{◌≡◌, IfOk, IsTrue};
 ghost use Rattle.serde_json.specs.View.{view};
 ghost use Rattle.gf_ops.specs.Limits.{is_colour};
-ghost use Rattle.gf_json.specs.LineColours.{hex_colour};
+ghost use Rattle.gf_json.specs.StepColours.{hex_colour};
 
 use crate::LineError;
 use gf_plane::{Rgb, rgb_of_hex};

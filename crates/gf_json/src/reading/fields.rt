@@ -5,9 +5,9 @@ ghost use Rattle.serde_json.specs.View.{view};
 ghost use Rattle.gf_ops.specs.Limits.{is_site, is_id, is_clock, is_aim, is_near, is_form, is_layer};
 ghost use Rattle.gf_ops.specs.Limits.{is_colour};
 ghost use Rattle.gf_json.specs.LineValues.{mapped};
-ghost use Rattle.gf_json.specs.LineFields.{value_at, id, past, site, object_member, aim};
-ghost use Rattle.gf_json.specs.LineFields.{box_size, circle_size, ellipse_size, polygon_points};
-ghost use Rattle.gf_json.specs.LineFields.{place_member, colour_member, layer, shown, with_ids};
+ghost use Rattle.gf_json.specs.StepFields.{value_at, id, past, site, object_member, aim};
+ghost use Rattle.gf_json.specs.StepFields.{box_size, circle_size, ellipse_size, polygon_points};
+ghost use Rattle.gf_json.specs.StepFields.{place_member, colour_member, layer, shown, with_ids};
 
 use crate::LineError;
 use crate::reading::aims::ids;

@@ -3,8 +3,9 @@
 ghost use Rattle.std.specs.Prelude.{◌≡◌, ◌⊎◌, All, Ok, Err, IfOk, IsOk, IsTrue, length, map};
 ghost use Rattle.serde_json.specs.View.{view, items_view};
 ghost use Rattle.gf_ops.specs.Limits.{is_polygon};
-ghost use Rattle.gf_json.specs.LineValues.{◌&◌, elements, each};
-ghost use Rattle.gf_json.specs.LineLimits.{point_value, counted, points_value, points_of};
+ghost use Rattle.gf_json.specs.LineForms.{elements};
+ghost use Rattle.gf_json.specs.StepValues.{◌&◌, each};
+ghost use Rattle.gf_json.specs.StepLimits.{point_value, counted, points_value, points_of};
 ghost use Rattle.gf_json.specs.CheckedPoints.{checked};
 
 use crate::LineError;

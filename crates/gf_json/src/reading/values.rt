@@ -3,11 +3,13 @@
 ghost use Rattle.std.specs.Prelude.{◌≡◌, ◌≤◌, ◌&&◌, pos, negsuc, int_le, IsTrue, Ok, IfOk};
 ghost use Rattle.serde_json.specs.View.{view, items_view};
 ghost use Rattle.gf_ops.specs.Limits.{is_id, is_clock, is_near, is_size, is_layer};
-ghost use Rattle.gf_json.specs.LineValues.{◌&◌, mapped, whole_value, elements, array, two, truth};
-ghost use Rattle.gf_json.specs.LineLimits.{integer, natural_value, coordinate_value, side_value};
-ghost use Rattle.gf_json.specs.LineLimits.{side_twice, entry_value, name, size, radius, level};
-ghost use Rattle.gf_json.specs.LineLimits.{point_value, clock};
-ghost use Rattle.gf_json.specs.LineAims.{numbers};
+ghost use Rattle.gf_json.specs.LineValues.{mapped};
+ghost use Rattle.gf_json.specs.LineForms.{elements};
+ghost use Rattle.gf_json.specs.StepValues.{◌&◌, whole_value, array, two, truth};
+ghost use Rattle.gf_json.specs.StepLimits.{integer, natural_value, coordinate_value, side_value};
+ghost use Rattle.gf_json.specs.StepLimits.{side_twice, entry_value, name, size, radius, level};
+ghost use Rattle.gf_json.specs.StepLimits.{point_value, clock};
+ghost use Rattle.gf_json.specs.StepAims.{numbers};
 
 use crate::LineError;
 use gf_ops::{Clock, OpId};

@@ -1,14 +1,15 @@
 use Rattle.std.proofs.Common.{refl}
 use Rattle.serde_json.specs.View.{view}
-use Rattle.gf_json.specs.KeepLines.{keep_of}
+use Rattle.gf_json.specs.StepLines.{keep_of}
+use Rattle.gf_json.proofs.FormLineLemmas.{within-keep}
 use Rattle.gf_json.proofs.KeyLemmas.{denoted_by, denoted_fault}
 use Rattle.gf_json.proofs.reading.read_keep.Goals as goal
 
 pub returns-in-Ok-clause-denoted : goal.returns-in-Ok-clause-denoted
 returns-in-Ok-clause-denoted c =
-    denoted_by keep_of c.args.line.now (view c.in-Ok.value) c.in-Ok.value _ _ refl c.in-Ok.ensures
-    c.keep_of.ensures.value
+    denoted_by keep_of _ within-keep c.args.line.now (view c.in-Ok.value) c.in-Ok.value _ _ refl
+    c.in-Ok.ensures c.keep_of.ensures.value
 
 pub returns-in-Err-clause-denoted : goal.returns-in-Err-clause-denoted
 returns-in-Err-clause-denoted c =
-    denoted_fault keep_of c.args.line.now c.in-Err.fault _ _ refl refl c.in-Err.ensures
+    denoted_fault _ c.args.line.now c.in-Err.fault _ _ refl refl c.in-Err.ensures

@@ -1,14 +1,15 @@
 use Rattle.std.proofs.Common.{refl}
 use Rattle.serde_json.specs.View.{view}
-use Rattle.gf_json.specs.ScriptLines.{script_of}
+use Rattle.gf_json.specs.StepLines.{script_of}
+use Rattle.gf_json.proofs.FormLineLemmas.{within-script}
 use Rattle.gf_json.proofs.KeyLemmas.{denoted_by, denoted_fault}
 use Rattle.gf_json.proofs.reading.read_script.Goals as goal
 
 pub returns-in-Ok-clause-denoted : goal.returns-in-Ok-clause-denoted
 returns-in-Ok-clause-denoted c =
-    denoted_by script_of c.args.line.now (view c.in-Ok.value) c.in-Ok.value _ _ refl c.in-Ok.ensures
-    c.script_of.ensures.value
+    denoted_by script_of _ within-script c.args.line.now (view c.in-Ok.value) c.in-Ok.value _ _ refl
+    c.in-Ok.ensures c.script_of.ensures.value
 
 pub returns-in-Err-clause-denoted : goal.returns-in-Err-clause-denoted
 returns-in-Err-clause-denoted c =
-    denoted_fault script_of c.args.line.now c.in-Err.fault _ _ refl refl c.in-Err.ensures
+    denoted_fault _ c.args.line.now c.in-Err.fault _ _ refl refl c.in-Err.ensures

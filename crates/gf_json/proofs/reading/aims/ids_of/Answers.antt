@@ -1,7 +1,8 @@
 use Rattle.std.proofs.Common.{rules, ◌≡◌, true, inr}
 use Rattle.serde_json.specs.View.{items_view}
-use Rattle.gf_json.specs.LineValues.{elements, each}
-use Rattle.gf_json.specs.LineAims.{numbers, rising}
+use Rattle.gf_json.specs.LineForms.{elements}
+use Rattle.gf_json.specs.StepValues.{each}
+use Rattle.gf_json.specs.StepAims.{numbers, rising}
 use Rattle.gf_json.proofs.IdLemmas.{many_ids, read_ids, fault_of_ids}
 use Rattle.gf_json.proofs.reading.aims.ids_of.Goals as goal
 

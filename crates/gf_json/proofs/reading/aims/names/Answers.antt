@@ -2,7 +2,7 @@ use Rattle.std.proofs.Common.{◌≡◌, List, map, inr, ap, sym, ◌∙◌, Ok}
 use Rattle.std.proofs.lemmas.List.{take_all}
 use Rattle.serde_json.specs.declared.value.Value.{Value}
 use Rattle.serde_json.specs.View.{view}
-use Rattle.gf_json.specs.LineLimits.{name}
+use Rattle.gf_json.specs.StepLimits.{name}
 use Rattle.gf_json.proofs.IdLemmas.{names_fault, names_read}
 use Rattle.gf_json.proofs.reading.aims.names.Goals as goal
 

@@ -1,6 +1,6 @@
 use Rattle.std.proofs.Common.{◌≡◌, map, take, Ok}
 use Rattle.serde_json.specs.View.{view}
-use Rattle.gf_json.specs.LineLimits.{name}
+use Rattle.gf_json.specs.StepLimits.{name}
 use Rattle.gf_json.proofs.reading.aims.names.Given as goal
 
 abbrev pub invariant-loop-value : goal.invariant-loop-value

@@ -1,7 +1,8 @@
 use Rattle.std.proofs.Common.{◌≡◌, drop}
 use Rattle.serde_json.specs.View.{items_view}
-use Rattle.gf_json.specs.LineValues.{each, elements}
-use Rattle.gf_json.specs.LineAims.{numbers}
+use Rattle.gf_json.specs.LineForms.{elements}
+use Rattle.gf_json.specs.StepValues.{each}
+use Rattle.gf_json.specs.StepAims.{numbers}
 use Rattle.gf_json.specs.CheckedIds.{rising_behind}
 use Rattle.gf_json.proofs.reading.aims.rise_behind.Given as goal
 

@@ -1,7 +1,8 @@
 use Rattle.std.proofs.Common.{◌≡◌, ◌≤◌, drop, length}
 use Rattle.serde_json.specs.View.{items_view}
-use Rattle.gf_json.specs.LineValues.{each, elements}
-use Rattle.gf_json.specs.LineLimits.{point_value}
+use Rattle.gf_json.specs.LineForms.{elements}
+use Rattle.gf_json.specs.StepValues.{each}
+use Rattle.gf_json.specs.StepLimits.{point_value}
 use Rattle.gf_json.specs.CheckedPoints.{checked}
 use Rattle.gf_json.proofs.reading.points.are_points.Given as goal
 

@@ -1,9 +1,11 @@
 use Rattle.std.proofs.Common.{◌≡◌, sym, Ok, inr, length}
 use Rattle.serde_json.specs.View.{items_view}
-use Rattle.gf_json.specs.LineValues.{◌&◌, each, elements}
-use Rattle.gf_json.specs.LineLimits.{point_value, counted}
+use Rattle.gf_json.specs.LineForms.{elements}
+use Rattle.gf_json.specs.StepValues.{◌&◌, each}
+use Rattle.gf_json.specs.StepLimits.{point_value, counted}
 use Rattle.gf_json.specs.CheckedPoints.{checked}
-use Rattle.gf_json.proofs.PointLemmas.{points_checked, points_of-read, points_of-within}
+use Rattle.gf_json.proofs.FormListLemmas.{points_of-within}
+use Rattle.gf_json.proofs.PointLemmas.{points_checked, points_of-read}
 use Rattle.gf_json.proofs.reading.points.points_of.Goals as goal
 
 pub checked_points-requires : goal.checked_points-requires

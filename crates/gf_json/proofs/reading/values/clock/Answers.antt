@@ -1,8 +1,10 @@
 use Rattle.std.proofs.Common.{◌≡◌, refl, sym}
 use Rattle.serde_json.specs.View.{view, items_view}
-use Rattle.gf_json.specs.LineValues.{◌&◌, elements}
-use Rattle.gf_json.specs.LineLimits.{entry_value}
-use Rattle.gf_json.proofs.ArrayLemmas.{clock_of_eight, clock-within}
+use Rattle.gf_json.specs.LineForms.{elements}
+use Rattle.gf_json.specs.StepValues.{◌&◌}
+use Rattle.gf_json.specs.StepLimits.{entry_value}
+use Rattle.gf_json.proofs.ArrayLemmas.{clock_of_eight}
+use Rattle.gf_json.proofs.FormListLemmas.{clock-within}
 use Rattle.gf_json.proofs.reading.values.clock.Goals as goal
 
 pub returns-in-Ok-clause-value : goal.returns-in-Ok-clause-value

@@ -1,4 +1,4 @@
--- The limits of the values of a line (this project's choice).
+-- The limits of values that are read part by part. No public clause cites this module.
 use Rattle.std.specs.Prelude.{ℕ, ◌&&◌, ◌==◌, nat_abs, int_le, ℤ, pos, negsuc, List}
 use Rattle.std.specs.Prelude.{length, Ok, Err, if◌then◌else◌}
 use Rattle.std.specs.Ordering.{int_eq}
@@ -8,8 +8,9 @@ use Rattle.gf_ops.specs.declared.op.OpId.{OpId}
 use Rattle.gf_ops.specs.declared.op.Clock.{Clock}
 use Rattle.gf_json.specs.declared.line_error.LineError.TheVariants as fault
 use Rattle.serde_json.specs.Data.{Data}
-use Rattle.gf_json.specs.LineValues.{Got, mapped, and_then, ◌&◌, whole_value, array, two, pair}
-use Rattle.gf_json.specs.LineValues.{each}
+use Rattle.gf_json.specs.LineValues.{Got, mapped, and_then}
+use Rattle.gf_json.specs.StepValues.{◌&◌, whole_value, array, two, pair}
+use Rattle.gf_json.specs.StepValues.{each}
 
 -- a whole number from low to high
 abbrev pub integer : ℤ → ℤ → Data → Got ℤ

@@ -1,21 +1,17 @@
--- The ids that a line's operation aims at (RFC 8259; form and limits are this project's choice).
+-- The ids of an aim that are read part by part. No public clause cites this module.
 use Rattle.std.specs.Prelude.{Bool, false, ℤ, nat_le, List, length, Ok, Err, if◌then◌else◌}
-use Rattle.std.specs.declared.cmp.Ordering.{Ordering}
-use Rattle.std.specs.Ordering.{ordering_then, int_cmp}
 use Rattle.gf_ops.specs.declared.op.OpId.{OpId}
 use Rattle.gf_ops.specs.OperationOrder.{rises}
 use Rattle.gf_json.specs.declared.line_error.LineError.TheVariants as fault
 use Rattle.serde_json.specs.Data.{Data}
-use Rattle.gf_json.specs.LineValues.{Got, and_then, whole_value, array, pair, each}
-use Rattle.gf_json.specs.LineLimits.{name}
+use Rattle.gf_json.specs.LineValues.{Got, and_then}
+use Rattle.gf_json.specs.StepValues.{whole_value, array, pair, each}
+use Rattle.gf_json.specs.LineForms.{pair_cmp}
+use Rattle.gf_json.specs.StepLimits.{name}
 
 -- two whole numbers, as a name has, within the limits or not
 abbrev pub numbers : Data → Got (ℤ × ℤ)
 numbers d = pair whole_value whole_value d
-
--- pairs are ordered by the first number, then by the second
-abbrev pub pair_cmp : ℤ × ℤ → ℤ × ℤ → Ordering
-pair_cmp p q = ordering_then (int_cmp p.0 q.0) (int_cmp p.1 q.1)
 
 -- the pairs that were read rise, each once
 abbrev pub rising : Got (List (ℤ × ℤ)) → Bool

@@ -1,4 +1,4 @@
--- Colours in a line (this project's choice).
+-- Colours that are read part by part. No public clause cites this module.
 use Rattle.std.specs.Prelude.{option_and_then}
 use Rattle.std.specs.Option.{ok_or}
 use Rattle.gf_plane.specs.declared.colour.Rgb.{Rgb}

@@ -1,5 +1,4 @@
--- What stands at each key of a line (RFC 8259 by serde_json's value; keys are this project's
--- choice).
+-- What stands at each key, read part by part. No public clause cites this module.
 use Rattle.std.specs.Prelude.{ℕ, Bool, List, codes}
 use Rattle.std.specs.Option.{ok_or}
 use Rattle.gf_plane.specs.declared.point.Point.{Point}
@@ -12,11 +11,12 @@ use Rattle.gf_ops.specs.declared.change.Form.TheVariants.{Rect, Polygon, Circle,
 use Rattle.gf_json.specs.declared.line_error.LineError.TheVariants as fault
 use Rattle.serde_json.specs.Data.{Data}
 use Rattle.serde_json.specs.Find.{get}
-use Rattle.gf_json.specs.LineValues.{Got, mapped, and_then, array, truth}
-use Rattle.gf_json.specs.LineLimits.{natural_value, name, size, radius, level, clock, point_value}
-use Rattle.gf_json.specs.LineLimits.{points_value}
-use Rattle.gf_json.specs.LineAims.{ids}
-use Rattle.gf_json.specs.LineColours.{hex_colour}
+use Rattle.gf_json.specs.LineValues.{Got, mapped, and_then}
+use Rattle.gf_json.specs.StepValues.{array, truth}
+use Rattle.gf_json.specs.StepLimits.{natural_value, name, size, radius, level, clock, point_value}
+use Rattle.gf_json.specs.StepLimits.{points_value}
+use Rattle.gf_json.specs.StepAims.{ids}
+use Rattle.gf_json.specs.StepColours.{hex_colour}
 
 -- the value at a key
 abbrev pub value_at : List ℕ → Data → Got Data
