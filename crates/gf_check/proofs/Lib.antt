@@ -1,7 +1,6 @@
 pub mod ToldLemmas
 pub mod OrderLemmas
-pub mod LeavingLemmas
-pub mod TellingLemmas
 pub mod ReadLemmas
+pub mod SteppingLemmas
 pub mod CheckingLemmas
 pub mod RunLemmas

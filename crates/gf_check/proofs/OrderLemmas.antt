@@ -14,7 +14,7 @@ use Rattle.gf_replay.specs.declared.reading_error.ReadingError.{ReadingError}
 use Rattle.gf_replay.specs.declared.reading_error.ReadingError.TheVariants as reading
 use Rattle.gf_check.specs.FaultLines.{Told, errors}
 use Rattle.gf_check.specs.AllFaults.{RisesTo}
-use Rattle.gf_check.specs.ToldBehind.{AreBefore, AreInOrder}
+use Rattle.gf_check.specs.CheckedLines.{AreBefore, AreInOrder}
 use Rattle.gf_check.proofs.ToldLemmas.{errors_more}
 
 -- ---- the numbers of lines

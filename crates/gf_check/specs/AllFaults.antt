@@ -15,7 +15,8 @@ use Rattle.gf_replay.specs.Taking.{HasOrHolds, of_line}
 use Rattle.gf_site.specs.ReplicaState.{ReplicaState}
 use Rattle.gf_edit.specs.declared.entries.Entry.TheVariants as entry
 use Rattle.gf_check.specs.FaultLines.{Told, IsOnOneLine, errors, told_text}
-use Rattle.gf_check.specs.CheckedText.{DenotesSome, RefusesChecked, denoted_by}
+use Rattle.gf_edit.specs.Entries.{denoted_by}
+use Rattle.gf_check.specs.CheckedText.{DenotesSome, RefusesChecked}
 use Rattle.gf_check.specs.TrueFaults.{IsDenotedBy, IsTrueOf}
 
 -- the error is a fault of the input, and no want of memory

@@ -1,134 +1,64 @@
--- What is told of one line, and of the lines so far. No public clause cites this module.
-use Rattle.std.specs.Prelude.{◌≡◌, ◌⊎◌, ℕ, List, [], ◌∷◌, ◌++◌, Contains, Ok, Err, Option, ⊤}
-use Rattle.std.specs.Prelude.{map}
+-- What is told of the lines so far. No public clause cites this module.
+use Rattle.std.specs.Prelude.{◌≡◌, ◌<◌, ℕ, List, [], ◌∷◌, ◌++◌, Contains, Ok, Option, None, Some}
 use Rattle.gf_streams.specs.TextLines.{numbered_lines}
 use Rattle.gf_ops.specs.declared.op.Op.{Op}
-use Rattle.gf_ops.specs.declared.op.OpId.{OpId}
-use Rattle.gf_ops.specs.declared.faults.OpFault.{OpFault}
-use Rattle.gf_causal.specs.HeldOperations.{IsClash}
 use Rattle.gf_causal.specs.Ready.{NoneIsReady}
 use Rattle.gf_site.specs.ReplicaState.{ReplicaState}
-use Rattle.gf_json.specs.LineValues.{Got}
-use Rattle.gf_json.specs.declared.line_error.LineError.{LineError}
-use Rattle.gf_json.specs.declared.line_error.LineError.TheVariants as line
 use Rattle.gf_replay.specs.declared.reading_error.LineCause.{LineCause}
-use Rattle.gf_replay.specs.declared.reading_error.LineCause.TheVariants as cause
-use Rattle.gf_replay.specs.declared.reading_error.ReadingError.{ReadingError}
 use Rattle.gf_replay.specs.declared.reading_error.ReadingError.TheVariants as reading
-use Rattle.gf_replay.specs.Taking.{DropsBehind, HasOrHolds, HasTaken, TakesOp, of_line}
-use Rattle.gf_edit.specs.declared.entries.Entry.{Entry}
+use Rattle.gf_replay.specs.LineSteps as replay
+use Rattle.gf_replay.specs.Taking.{HasOrHolds, KeepsAll, Offers}
 use Rattle.gf_edit.specs.declared.entries.Entry.TheVariants as entry
-use Rattle.gf_edit.specs.EditedText.{denotes_entry, ops_in}
+use Rattle.gf_edit.specs.Entries.{denoted_by}
+use Rattle.gf_edit.specs.EntrySteps.{HasReadEntries}
 use Rattle.gf_check.specs.declared.telling.Telling.{Telling}
 use Rattle.gf_check.specs.FaultLines.{Told, errors}
-use Rattle.gf_check.specs.CheckedText.{denoted_by}
-use Rattle.gf_check.specs.TrueFaults.{IsDenotedBy, RefusesAmong}
-use Rattle.gf_check.specs.AllFaults.{HasOneById, IsFaultOf, KeepsOrTells, TellsEach, TellsOp}
-use Rattle.gf_check.specs.AllFaults.{TellsTrue}
+use Rattle.gf_check.specs.TrueFaults.{IsDenotedBy}
+use Rattle.gf_check.specs.AllFaults.{HasOneById, IsFaultOf, KeepsOrTells, TellsEach, TellsOnceEach}
+use Rattle.gf_check.specs.AllFaults.{TellsRising, TellsTrue}
 use Rattle.gf_check.specs.Telling.{HasTold}
-use Rattle.gf_check.specs.ToldBehind.{TellsFrom, AreInOrder, AreBefore, Leaves}
 
--- an entry is taken: a command changes nothing
-abbrev pub TakesEntry : Entry → ReplicaState → ReplicaState → Type 0
-TakesEntry (entry.Operation a) x y = TakesOp a x y
-TakesEntry (entry.Command c) x y = y ≡ x
+-- the lines before those that are left were taken without a fault, and no held one is ready
+abbrev pub HasRead : Option ℕ → List ℕ → List (ℕ × List ℕ) → ReplicaState → Type 0
+HasRead None bytes left x = replay.HasRead bytes left x
+HasRead (Some s) bytes left x = HasReadEntries s bytes left x
 
--- the line denotes an entry, which is taken
-pub record TakesLine (editor : Option ℕ) (text : List ℕ) (x y : ReplicaState) : Type 0 where
-  pub taken : Entry
-  pub denotes : denoted_by editor text ≡ Ok taken
-  pub takes : TakesEntry taken x y
-
--- the line denotes another operation under the id of one that the replica has
-pub record ClashesLine (editor : Option ℕ) (text : List ℕ) (x : ReplicaState) : Type 0 where
-  pub op : Op
-  pub denotes : denoted_by editor text ≡ Ok (entry.Operation op)
-  pub clash : IsClash x.held x.ops op
-
--- the line denotes an operation, with which one under this id doesn't fit, for this fault
-pub record DropsLine (editor : Option ℕ) (text : List ℕ) (x : ReplicaState) (i : OpId)
-    (why : OpFault) : Type 0 where
-  pub op : Op
-  pub denotes : denoted_by editor text ≡ Ok (entry.Operation op)
-  pub behind : DropsBehind op x i why
-
--- what is wrong with the line
-abbrev pub IsLineFault : Option ℕ → List ℕ → ReplicaState → LineCause → Type 0
-IsLineFault editor text x cause.Json = denoted_by editor text ≡ Err line.Json
-IsLineFault editor text x cause.Field = denoted_by editor text ≡ Err line.Field
-IsLineFault editor text x cause.Range = denoted_by editor text ≡ Err line.Range
-IsLineFault editor text x cause.Clash = ClashesLine editor text x
-
--- why line n is not taken
-abbrev pub RefusesLine : Option ℕ → ℕ → List ℕ → ReplicaState → ReadingError
-    → Type 0
-RefusesLine editor n text x (reading.Line m why) = (m ≡ n) × IsLineFault editor text x why
-RefusesLine editor n text x (reading.Dropped i why) = DropsLine editor text x i why
-RefusesLine editor n text x reading.OutOfMemory = ⊤
-
--- the line denotes the operation b
-abbrev pub IsOfLine : Option ℕ → List ℕ → Op → Type 0
-IsOfLine editor text b = denoted_by editor text ≡ Ok (entry.Operation b)
-
--- the fault is one of line n, or one of its operation and those of x is refused
-abbrev pub IsFaultAt : Option ℕ → ℕ → List ℕ → ReplicaState → ReadingError → Type 0
-IsFaultAt editor n text x (reading.Line m why) = (m ≡ n) × IsLineFault editor text x why
-IsFaultAt editor n text x (reading.Dropped i why) =
-    RefusesAmong (λ b. IsOfLine editor text b ⊎ HasOrHolds x b) i why
-IsFaultAt editor n text x reading.OutOfMemory = ⊥
-
--- what line n leaves: the same of the operation that it denotes, and its fault is told
-pub record LeavesLine (editor : Option ℕ) (n : ℕ) (text : List ℕ) (x y : ReplicaState)
-    (told all : List Told) : Type 0 where
-  pub leaves : Leaves (IsOfLine editor text) (IsFaultAt editor n text x) (AreBefore n told)
-      x y told all
-  pub one : HasOneById x → HasOneById y
-  pub none : NoneIsReady x.ops x.held → NoneIsReady y.ops y.held
-  pub own : (a : Op) → IsOfLine editor text a → HasOrHolds y a ⊎ TellsOp all n a.id
-  pub each : (e : LineError) → denoted_by editor text ≡ Err e
-      → Contains (errors all) (of_line n e)
-
--- line n is taken, or the first fault that is told refuses it
-abbrev pub TellsLine : Option ℕ → ℕ → List ℕ → ReplicaState → ReplicaState
-    → List Told → Telling
-    → Type 0
-TellsLine editor n text x y told t = TellsFrom (TakesLine editor text x y)
-    (RefusesLine editor n text x) (LeavesLine editor n text x y told) told t
-
--- ---- all lines
-
--- what a numbered line reads as
-abbrev pub line_entry : Option ℕ → ℕ × List ℕ → ℕ × Got Entry
-line_entry editor line = (line.0, denoted_by editor line.1)
-
--- the lines denote these entries in order, each with the number of its line
-abbrev pub AreEntriesBy : Option ℕ → List (ℕ × List ℕ) → List (ℕ × Entry) → Type 0
-AreEntriesBy editor lines entries = map (line_entry editor) lines ≡ map denotes_entry entries
-
--- the lines before those that are left denote entries that were taken, and no held one is ready
-pub record HasRead (editor : Option ℕ) (bytes : List ℕ) (left : List (ℕ × List ℕ))
+-- the same of all lines before one. The operation of this one was then offered, and the replica x
+-- has what it had
+pub record HasOffered (editor : Option ℕ) (bytes : List ℕ) (left : List (ℕ × List ℕ))
     (x : ReplicaState) : Type 0 where
-  pub before : List (ℕ × List ℕ)
-  pub whole : numbered_lines bytes ≡ before ++ left
-  pub entries : List (ℕ × Entry)
-  pub lines : AreEntriesBy editor before entries
-  pub taken : HasTaken (ops_in entries) x
-  pub none : NoneIsReady x.ops x.held
+  pub number : ℕ
+  pub text : List ℕ
+  pub before : ReplicaState
+  pub read : HasRead editor bytes ((number, text) ∷ left) before
+  pub op : Op
+  pub denotes : denoted_by editor text ≡ Ok (entry.Operation op)
+  pub offered : ReplicaState
+  pub offers : Offers before op offered
+  pub keeps : KeepsAll offered x
 
--- the first fault that is told is one of the bytes; without one, the lines before those left were
--- read
-abbrev pub BeginsBefore : Option ℕ → List ℕ → List (ℕ × List ℕ) → ReplicaState
-    → List Told
-    → Type 0
-BeginsBefore editor bytes left x [] = HasRead editor bytes left x
-BeginsBefore editor bytes left x (t ∷ ts) = IsFaultOf editor bytes t.error
+-- the lines that are told rise, and no fault is told twice
+pub record AreInOrder (told : List Told) : Type 0 where
+  pub rises : TellsRising told
+  pub once : TellsOnceEach told
 
--- what is told is of the lines before those that are left
-pub record HasChecked (editor : Option ℕ) (bytes : List ℕ) (left : List (ℕ × List ℕ))
+-- each line that is told comes before line n
+abbrev pub AreBefore : ℕ → List Told → Type 0
+AreBefore n told = (m : ℕ) (why : LineCause) → Contains (errors told) (reading.Line m why)
+    → m < n
+
+-- the first fault that is told refuses the bytes; where none is told, another fact holds
+abbrev pub BeginsWith : Type 0 → Option ℕ → List ℕ → List Told → Type 0
+BeginsWith none editor bytes [] = none
+BeginsWith none editor bytes (t ∷ ts) = IsFaultOf editor bytes t.error
+
+-- what is told of the lines before those that are left, of whose operations x has or holds the
+-- others; where nothing is told, another fact holds
+pub record Tells (none : Type 0) (editor : Option ℕ) (bytes : List ℕ) (left : List (ℕ × List ℕ))
     (x : ReplicaState) (t : Telling) : Type 0 where
   pub told : List Told
   pub is : HasTold told t
-  pub first : BeginsBefore editor bytes left x told
+  pub first : BeginsWith none editor bytes told
   pub before : List (ℕ × List ℕ)
   pub whole : numbered_lines bytes ≡ before ++ left
   pub each : TellsEach editor before told
@@ -137,5 +67,25 @@ pub record HasChecked (editor : Option ℕ) (bytes : List ℕ) (left : List (ℕ
   pub only : TellsTrue editor (numbered_lines bytes) told
   pub order : AreInOrder told
   pub below : (k : ℕ × List ℕ) → Contains left k → AreBefore k.0 told
-  pub none : NoneIsReady x.ops x.held
   pub one : HasOneById x
+
+-- behind the offer of a line's operation, while the replica steps
+abbrev pub IsStepping : Option ℕ → List ℕ → List (ℕ × List ℕ) → ReplicaState → Telling → Type 0
+IsStepping editor bytes left x t = Tells (HasOffered editor bytes left x) editor bytes left x t
+
+-- between two lines, where no held operation is ready
+pub record HasChecked (editor : Option ℕ) (bytes : List ℕ) (left : List (ℕ × List ℕ))
+    (x : ReplicaState) (t : Telling) : Type 0 where
+  pub tells : Tells (HasRead editor bytes left x) editor bytes left x t
+  pub none : NoneIsReady x.ops x.held
+
+-- with line n, all before those that are left were checked, if those before it were
+abbrev pub GoesOn : Option ℕ → ℕ → List ℕ → ReplicaState → Telling → ReplicaState → Telling
+    → Type 0
+GoesOn editor n text x t y u = (bytes : List ℕ) (left : List (ℕ × List ℕ))
+    → HasChecked editor bytes ((n, text) ∷ left) x t → HasChecked editor bytes left y u
+
+-- and behind the offer of its operation, if this was offered
+abbrev pub StepsOn : ReplicaState → Telling → ReplicaState → Telling → Type 0
+StepsOn x t y u = (editor : Option ℕ) (bytes : List ℕ) (left : List (ℕ × List ℕ))
+    → IsStepping editor bytes left x t → HasChecked editor bytes left y u

@@ -2,21 +2,12 @@
 use Rattle.std.specs.Prelude.{ℕ, List, Option, None, Some}
 use Rattle.gf_streams.specs.TextLines.{numbered_lines}
 use Rattle.gf_ops.specs.declared.op.Op.{Op}
-use Rattle.gf_json.specs.LineValues.{Got, mapped}
-use Rattle.gf_json.specs.OperationLines.{denoted}
 use Rattle.gf_replay.specs.declared.reading_error.ReadingError.{ReadingError}
 use Rattle.gf_replay.specs.Denoting.{Delivers, Denotes}
 use Rattle.gf_replay.specs.Refusing.{RefusesText}
 use Rattle.gf_edit.specs.declared.entries.Entry.{Entry}
-use Rattle.gf_edit.specs.declared.entries.Entry.TheVariants as entry
-use Rattle.gf_edit.specs.Entries.{entry_denoted}
 use Rattle.gf_edit.specs.EditedText.{AreEntriesOf, ops_in}
 use Rattle.gf_edit.specs.EditFaults.{RefusesEntries}
-
--- what a line denotes, or its first fault: an operation, or a command where site s edits
-abbrev pub denoted_by : Option ℕ → List ℕ → Got Entry
-denoted_by None line = mapped (λ a. entry.Operation a) (denoted line)
-denoted_by (Some s) line = entry_denoted s line
 
 -- the bytes denote some history
 pub record DenotesHistory (bytes : List ℕ) : Type 0 where

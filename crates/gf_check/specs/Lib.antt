@@ -4,6 +4,4 @@ pub mod CheckedText
 pub mod TrueFaults
 pub mod AllFaults
 pub mod Telling
-pub mod ToldBehind
-pub mod CheckSteps
 pub mod CheckedLines

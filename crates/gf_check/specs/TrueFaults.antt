@@ -12,7 +12,7 @@ use Rattle.gf_replay.specs.declared.reading_error.LineCause.TheVariants as cause
 use Rattle.gf_replay.specs.declared.reading_error.ReadingError.{ReadingError}
 use Rattle.gf_replay.specs.declared.reading_error.ReadingError.TheVariants as reading
 use Rattle.gf_edit.specs.declared.entries.Entry.TheVariants as entry
-use Rattle.gf_check.specs.CheckedText.{denoted_by}
+use Rattle.gf_edit.specs.Entries.{denoted_by}
 
 -- one of these lines denotes the operation a
 pub record IsDenotedBy (editor : Option ℕ) (lines : List (ℕ × List ℕ)) (a : Op) : Type 0 where

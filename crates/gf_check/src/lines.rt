@@ -1,15 +1,14 @@
 //! From the lines of a text to all of its faults.
 
-ghost use Rattle.std.specs.Prelude.{◌≡◌, ◌⊎◌, Err, List, IfOk, IfSome, OnOk};
+ghost use Rattle.std.specs.Prelude.{◌≡◌, ℕ, List, Ok, Option, IfOk, IfSome, OnOk};
 ghost use Rattle.gf_ops.specs.Limits.{IsInRange};
 ghost use Rattle.gf_ops.specs.OperationOrder.{IsSite};
-ghost use Rattle.gf_edit.specs.Entries.{IsEntryInRange};
+ghost use Rattle.gf_replay.specs.Taking.{of_line};
+ghost use Rattle.gf_edit.specs.Entries.{denoted_by};
 ghost use Rattle.gf_check.specs.FaultLines.{Told};
-ghost use Rattle.gf_check.specs.CheckedText.{denoted_by};
 ghost use Rattle.gf_check.specs.AllFaults.{AnswersText};
 ghost use Rattle.gf_check.specs.Telling.{HasTold, TellsOne, TellsOnce};
-ghost use Rattle.gf_check.specs.CheckSteps.{TellsEntry, TellsOffer, TellsSteps};
-ghost use Rattle.gf_check.specs.CheckedLines.{TellsLine};
+ghost use Rattle.gf_check.specs.CheckedLines.{GoesOn, StepsOn};
 
 use crate::line_reasons::line_reason;
 use crate::operation_reasons::{clash_reason, operation_reason};
@@ -19,7 +18,7 @@ use crate::telling::Telling;
 use gf_base::OutOfMemory;
 use gf_causal::OfferFault;
 use gf_edit::{Entry, read_entry};
-use gf_json::{LineError, read_op};
+use gf_json::LineError;
 use gf_ops::{Op, OpFault, OpId};
 use gf_replay::{LineCause, ReadingError};
 use gf_site::{Replica, Step};
@@ -57,7 +56,7 @@ pub fn faults_of(alloc: Global, text: Vec<u8>, editor: Option<u8>) -> Result<Vec
     Ok(check.telling.into_text())
 }
 
-/// Takes what a line denotes, or tells what is wrong with the line.
+/// Takes what a line denotes, or tells what is wrong with the line. A command is counted.
 fn take_line(
     alloc: Global,
     check: &mut Check,
@@ -65,48 +64,11 @@ fn take_line(
     line: &[u8],
     editor: Option<u8>,
 ) -> Result<(), OutOfMemory>
-    requires { IfSome editor IsSite }
-    ensures { (told : List Told) → HasTold told check.old.telling → OnOk result
-        (TellsLine editor number line.now check.old.replica check.new.replica
-        told check.new.telling) }
+    ensures { OnOk result (GoesOn editor number line.now check.old.replica check.old.telling
+        check.new.replica check.new.telling) }
 {
-    match read_line(alloc, line, editor) {
-        Ok(entry) => take_entry(alloc, check, number, entry),
-        Err(LineError::OutOfMemory) => Err(OutOfMemory),
-        Err(LineError::Json) => tell_line(alloc, check, number, line, LineCause::Json, editor),
-        Err(LineError::Field) => tell_line(alloc, check, number, line, LineCause::Field, editor),
-        Err(LineError::Range) => tell_line(alloc, check, number, line, LineCause::Range, editor),
-    }
-}
-
-/// What a line denotes, or its first fault. Where no site edits, a line denotes an operation alone.
-fn read_line(alloc: Global, line: &[u8], editor: Option<u8>) -> Result<Entry, LineError>
-    ensures denoted { (result ≡ Err LineError.OutOfMemory)
-        ⊎ (result ≡ denoted_by editor line.now) }
-    ensures in_range { IfOk result IsEntryInRange }
-{
-    let Some(site) = editor else {
-        return match read_op(alloc, line) {
-            Ok(op) => Ok(Entry::Operation(op)),
-            Err(fault) => Err(fault),
-        };
-    };
-    read_entry(alloc, line, site)
-}
-
-/// Takes an operation, or counts a command.
-fn take_entry(
-    alloc: Global,
-    check: &mut Check,
-    number: u64,
-    entry: Entry,
-) -> Result<(), OutOfMemory>
-    requires { IsEntryInRange entry }
-    ensures { (told : List Told) → HasTold told check.old.telling → OnOk result
-        (TellsEntry number entry check.old.replica check.new.replica told check.new.telling) }
-{
-    match entry {
-        Entry::Operation(op) => take_op(
+    match read_entry(alloc, line, editor) {
+        Ok(Entry::Operation(op)) => take_op(
             alloc,
             &mut check.replica,
             &mut check.seen,
@@ -114,10 +76,26 @@ fn take_entry(
             number,
             op,
         ),
-        Entry::Command(_) => {
+        Ok(Entry::Command(_)) => {
             check.commands = check.commands.saturating_add(1);
             Ok(())
         }
+        Err(fault) => {
+            let cause = cause_of(fault)?;
+            tell_line(alloc, check, number, line, cause, editor)
+        }
+    }
+}
+
+/// The cause of a line with this fault, if that is no want of memory.
+fn cause_of(fault: LineError) -> Result<LineCause, OutOfMemory>
+    ensures { IfOk result (λ cause. (n : ℕ) → of_line n fault ≡ ReadingError.Line n cause) }
+{
+    match fault {
+        LineError::Json => Ok(LineCause::Json),
+        LineError::Field => Ok(LineCause::Field),
+        LineError::Range => Ok(LineCause::Range),
+        LineError::OutOfMemory => Err(OutOfMemory),
     }
 }
 
@@ -131,8 +109,9 @@ fn take_op(
     op: Op,
 ) -> Result<(), OutOfMemory>
     requires { IsInRange op }
-    ensures { (told : List Told) → HasTold told telling.old → OnOk result
-        (TellsOffer number op replica.old replica.new told telling.new) }
+    ensures { (editor : Option ℕ) (text : List ℕ) → denoted_by editor text ≡ Ok (Entry.Operation op)
+        → OnOk result (GoesOn editor number text replica.old telling.old
+        replica.new telling.new) }
 {
     let copy = op.copy(alloc)?;
     match replica.receive(op) {
@@ -153,8 +132,7 @@ fn step_all(
     seen: &Seen,
     telling: &mut Telling,
 ) -> Result<(), OutOfMemory>
-    ensures { (told : List Told) → HasTold told telling.old → OnOk result
-        (TellsSteps replica.old replica.new told telling.new) }
+    ensures { OnOk result (StepsOn replica.old telling.old replica.new telling.new) }
 {
     loop {
         // The clauses of both calls say what every replica keeps.

@@ -1,8 +1,7 @@
 -- What becomes of what was read: the lines that are written, or the refusal.
-use Rattle.std.specs.Prelude.{◌⊎◌, Ok, Err, None, Some, map, Option, IfErr, IfOk, IfSome, IsSomeAnd}
+use Rattle.std.specs.Prelude.{◌⊎◌, Ok, Err, None, Some, Option, IfErr, IfOk, IfSome, IsSomeAnd}
 use Rattle.std.specs.Prelude.{Result, Vec}
-use Rattle.std.proofs.Common.{ℕ, List, [], sym, ap, subst, ◌∙◌, Global, inl, inr}
-use Rattle.std.proofs.lemmas.List.{append-nil}
+use Rattle.std.proofs.Common.{ℕ, List, [], sym, subst, Global, inl, inr}
 use Rattle.gf_streams.specs.TextLines.{numbered_lines}
 use Rattle.gf_ops.specs.declared.op.Op.{Op}
 use Rattle.gf_ops.specs.declared.op.OpId.{OpId}
@@ -23,17 +22,22 @@ use Rattle.gf_edit.specs.declared.reading.ReadLines.{ReadLines}
 use Rattle.gf_edit.specs.Making.{HasRefused, Makes}
 use Rattle.gf_edit.specs.RefusedCommands.{KeepsNone, RefusesFor}
 use Rattle.gf_edit.specs.MakingSteps.{HasPassed, RefusesMaking}
-use Rattle.gf_edit.specs.EditedText.{AreEntriesOf, AreDelivered, entry_at, ops_in}
+use Rattle.gf_edit.specs.EditedText.{AreEntriesOf, AreDelivered, ops_in}
 use Rattle.gf_edit.specs.EditRun.{Edits, HasBlocking, RefusesEdit, HasRefusedCommand, of_edit}
-use Rattle.gf_edit.specs.EntrySteps.{HasReadEntries, HoldsBlocking, IsUnblocked, RefusesWaiting}
+use Rattle.gf_edit.specs.EntrySteps.{HasReadEntries, HasReadLines, HoldsBlocking, IsUnblocked}
+use Rattle.gf_edit.specs.EntrySteps.{RefusesWaiting}
 use Rattle.gf_edit.proofs.BlockingLemmas.{first_blocks, none_blocks, waiting_taken}
 use Rattle.gf_edit.proofs.CleanLemmas.{op_clean}
+use Rattle.gf_edit.proofs.ReceivingLemmas.{lines_read}
 use Rattle.gf_edit.proofs.WrittenLemmas.{op_shown, written_from}
 
-module _ (s : ℕ) (bytes : List ℕ) (r : ReadLines) (read : HasReadEntries s bytes [] r)
+module _ (s : ℕ) (bytes : List ℕ) (r : ReadLines) (all : HasReadLines s bytes [] r)
     (held : AreHeld r.replica.held) where
+  abbrev read : HasReadEntries s bytes [] r.replica
+  read = all.read
+
   all_lines : AreEntriesOf s (numbered_lines bytes) read.entries
-  all_lines = ap (map (entry_at s)) (read.whole ∙ append-nil read.before) ∙ read.lines
+  all_lines = lines_read s bytes r.replica read
 
   behind : IsUnblocked (at_site s r.replica) → AreDelivered s read.entries r.replica.ops
   behind none = record {
@@ -53,7 +57,7 @@ module _ (s : ℕ) (bytes : List ℕ) (r : ReadLines) (read : HasReadEntries s b
       lines = all_lines;
       history = r.replica.ops;
       behind = behind none;
-      makes = subst (λ (cs : List Numbered). Makes s r.replica.ops cs p.new) read.commands p.makes;
+      makes = subst (λ (cs : List Numbered). Makes s r.replica.ops cs p.new) all.commands p.makes;
     };
     is = p.is;
     told = p.told;
@@ -72,7 +76,7 @@ module _ (s : ℕ) (bytes : List ℕ) (r : ReadLines) (read : HasReadEntries s b
     history = r.replica.ops;
     behind = behind none;
     refusal = subst (λ (cs : List Numbered). HasRefused (Refused s) s r.replica.ops cs n)
-        read.commands
+        all.commands
         f;
   }
 
@@ -163,7 +167,7 @@ module _ (Gives : Vec ℕ Global → Result (Answer (Option Made)) EditError →
 pub edited_ok : (s : ℕ) (r : ReadLines) → AreHeld r.replica.held
     → IsUnblocked (at_site s r.replica) → (y : SiteState) (m : Result (Answer (Option Made)) EditError) →
     IfOk m (HasPassed s r.replica.ops r.commands.items y)
-    → IfOk m (λ e. (bytes : List ℕ) → HasReadEntries s bytes [] r
+    → IfOk m (λ e. (bytes : List ℕ) → HasReadLines s bytes [] r
     → Edits s bytes e.text.items e.value)
 edited_ok s r held none y (Ok e) p = λ bytes read. edited s bytes r read held none y e p
 edited_ok s r held none y (Err e) p = tt
@@ -171,6 +175,6 @@ edited_ok s r held none y (Err e) p = tt
 pub refused_err : {X : Type 0} (s : ℕ) (r : ReadLines) → AreHeld r.replica.held
     → IsUnblocked (at_site s r.replica) → (m : Result X EditError) →
     IfErr m (RefusesMaking s r.replica.ops r.commands.items)
-    → IfErr m (λ e. (bytes : List ℕ) → HasReadEntries s bytes [] r → RefusesEdit s bytes e)
+    → IfErr m (λ e. (bytes : List ℕ) → HasReadLines s bytes [] r → RefusesEdit s bytes e)
 refused_err s r held none (Ok x) f = tt
 refused_err s r held none (Err e) f = λ bytes read. refused s bytes r read held none e f

@@ -1,5 +1,6 @@
 -- What a line of an edited text denotes (this project's choice).
-use Rattle.std.specs.Prelude.{ℕ, ◌==◌, ◌&&◌, Bool, List, Ok, Err, if◌then◌else◌, IsTrue}
+use Rattle.std.specs.Prelude.{ℕ, ◌==◌, ◌&&◌, Bool, List, Option, Ok, Err, None, Some}
+use Rattle.std.specs.Prelude.{if◌then◌else◌, IsTrue}
 use Rattle.gf_ops.specs.declared.op.Op.{Op}
 use Rattle.gf_ops.specs.Limits.{IsInRange, is_aim, is_change, is_id}
 use Rattle.gf_json.specs.declared.line_error.LineError.TheVariants as fault
@@ -39,17 +40,25 @@ command_of s (Ok l) k = for_site s l
 command_of s (Err fault.Field) k = and_then (keep_for_site s) k
 command_of s (Err e) k = Err e
 
--- a line that has not the form of an operation is read as a command
-abbrev pub entry_of : ℕ → Got Op → Got Entry → Got Entry
-entry_of s (Ok a) c = Ok (entry.Operation a)
-entry_of s (Err fault.Field) c = c
-entry_of s (Err e) c = Err e
+-- the command of a line where a site edits; where none does, no line has the form of a command
+abbrev pub command_by : Option ℕ → List ℕ → Got Entry
+command_by None line = Err fault.Field
+command_by (Some s) line = command_of s (script_denoted line) (keep_denoted line)
 
--- what a line denotes where site s edits, or its first fault. The line denotes an operation of any
--- site, or a command of site s
+-- a line that has not the form of an operation is read as a command
+abbrev pub entry_of : Got Op → Got Entry → Got Entry
+entry_of (Ok a) c = Ok (entry.Operation a)
+entry_of (Err fault.Field) c = c
+entry_of (Err e) c = Err e
+
+-- what a line denotes, or its first fault: an operation of any site, or a command of the one that
+-- edits
+abbrev pub denoted_by : Option ℕ → List ℕ → Got Entry
+denoted_by editor line = entry_of (denoted line) (command_by editor line)
+
+-- the same where site s edits
 abbrev pub entry_denoted : ℕ → List ℕ → Got Entry
-entry_denoted s line =
-    entry_of s (denoted line) (command_of s (script_denoted line) (keep_denoted line))
+entry_denoted s line = denoted_by (Some s) line
 
 -- the command keeps the limits
 abbrev pub is_in_limits : EditCommand → Bool

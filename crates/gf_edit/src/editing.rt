@@ -4,7 +4,7 @@ ghost use Rattle.std.specs.Prelude.{ℕ, List, [], IfSome, IfOk, IfErr};
 ghost use Rattle.gf_ops.specs.OperationOrder.{IsSite};
 ghost use Rattle.gf_run.specs.RefusedRuns.{IsBetween};
 ghost use Rattle.gf_edit.specs.EditRun.{Edits, RefusesEdit, of_edit};
-ghost use Rattle.gf_edit.specs.EntrySteps.{HasReadEntries};
+ghost use Rattle.gf_edit.specs.EntrySteps.{HasReadLines};
 
 use crate::making::make_all;
 use crate::reading::{ReadLines, read_lines};
@@ -33,9 +33,9 @@ pub(crate) fn edit(
 /// that was read blocks it.
 fn make(alloc: Global, read: ReadLines, editor: u8) -> Result<Answer<Option<Made>>, EditError>
     requires { IsSite editor }
-    ensures ok { IfOk result (λ edited. (bytes : List ℕ) → HasReadEntries editor bytes [] read
+    ensures ok { IfOk result (λ edited. (bytes : List ℕ) → HasReadLines editor bytes [] read
         → Edits editor bytes edited.text.items edited.value) }
-    ensures refused { IfErr result (λ e. (bytes : List ℕ) → HasReadEntries editor bytes [] read
+    ensures refused { IfErr result (λ e. (bytes : List ℕ) → HasReadLines editor bytes [] read
         → RefusesEdit editor bytes e) }
     ensures between { IfErr result (λ e. IfSome (of_edit e) IsBetween) }
 {

@@ -3,7 +3,7 @@
 ghost use Rattle.std.specs.Prelude.{◌≡◌, ◌⊎◌, Err, IfOk, IsTrue};
 ghost use Rattle.gf_json.specs.KeepLines.{IsKeepInRange, keep_denoted};
 ghost use Rattle.gf_json.specs.ScriptLines.{IsScriptInRange, script_denoted};
-ghost use Rattle.gf_edit.specs.Entries.{command_of, entry_denoted, for_site, keep_for_site};
+ghost use Rattle.gf_edit.specs.Entries.{command_of, denoted_by, for_site, keep_for_site};
 ghost use Rattle.gf_edit.specs.Entries.{IsEntryInRange, of_script};
 
 use crate::EditCommand;
@@ -21,16 +21,19 @@ pub enum Entry {
     Command(EditCommand),
 }
 
-/// What a line denotes for this site, or its first fault. A line without the form of an operation
-/// is read as a command. A command of another site has the fault Range.
-pub fn read_entry(alloc: Global, line: &[u8], site: u8) -> Result<Entry, LineError>
+/// What a line denotes, or its first fault. Where a site edits, a line without the form of an
+/// operation is read as a command. A command of another site has the fault Range.
+pub fn read_entry(alloc: Global, line: &[u8], editor: Option<u8>) -> Result<Entry, LineError>
     ensures denoted { (result ≡ Err LineError.OutOfMemory)
-        ⊎ (result ≡ entry_denoted site line.now) }
+        ⊎ (result ≡ denoted_by editor line.now) }
     ensures in_range { IfOk result IsEntryInRange }
 {
     match read_op(alloc, line) {
         Ok(op) => Ok(Entry::Operation(op)),
-        Err(LineError::Field) => read_command(alloc, line, site),
+        Err(LineError::Field) => match editor {
+            Some(site) => read_command(alloc, line, site),
+            None => Err(LineError::Field),
+        },
         Err(fault) => Err(fault),
     }
 }

@@ -2,7 +2,7 @@
 //! operations.
 //!
 //! - [`edit_run`]: reads operation lines and command lines, and writes the new operations.
-//! - [`read_entry`], [`Entry`]: what a line denotes where a site edits, or its first fault.
+//! - [`read_entry`], [`Entry`]: what a line denotes, where a site edits or not, or its first fault.
 //! - [`EditCommand`]: what a line tells the site that edits.
 //! - [`check_waiting`]: whether an operation that waits blocks a site.
 //! - [`Made`]: the first and the last of the new operations.

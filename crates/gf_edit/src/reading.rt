@@ -1,10 +1,8 @@
 //! From the lines of a text to a replica and the commands that a site is told.
 
-ghost use Rattle.std.specs.Prelude.{[], IfOk, IfErr, OnOk};
-ghost use Rattle.gf_edit.specs.Entries.{IsEntryInRange};
+ghost use Rattle.std.specs.Prelude.{ℕ, List, [], ◌∷◌, IfOk, IfErr, OnOk};
 ghost use Rattle.gf_edit.specs.EditFaults.{RefusesEntries};
-ghost use Rattle.gf_edit.specs.EntrySteps.{GainsEntry, HasReadEntries, RefusesEntry, RefusesGain};
-ghost use Rattle.gf_edit.specs.EntrySteps.{TakesEntry};
+ghost use Rattle.gf_edit.specs.EntrySteps.{HasReadLines};
 
 use crate::entries::read_entry;
 use crate::{Entry, Numbered};
@@ -26,7 +24,7 @@ pub(crate) fn read_lines(
     text: Vec<u8>,
     editor: u8,
 ) -> Result<ReadLines, ReadingError>
-    ensures ok { IfOk result (HasReadEntries editor text.items []) }
+    ensures ok { IfOk result (HasReadLines editor text.items []) }
     ensures err { IfErr result (RefusesEntries editor text.items) }
 {
     let mut read = ReadLines {
@@ -49,30 +47,25 @@ fn take_line(
     line: &[u8],
     editor: u8,
 ) -> Result<(), ReadingError>
-    ensures ok { OnOk result (TakesEntry editor number line.now read.old read.new) }
-    ensures err { IfErr result (RefusesEntry editor number line.now read.old) }
+    ensures ok { (bytes : List ℕ) (left : List (ℕ × List ℕ))
+        → HasReadLines editor bytes ((number, line.now) ∷ left) read.old
+        → OnOk result (HasReadLines editor bytes left read.new) }
+    ensures err { (bytes : List ℕ) (left : List (ℕ × List ℕ))
+        → HasReadLines editor bytes ((number, line.now) ∷ left) read.old
+        → IfErr result (RefusesEntries editor bytes) }
 {
-    let entry = match read_entry(alloc, line, editor) {
-        Ok(entry) => entry,
-        Err(fault) => return Err(line_refusal(number, fault)),
-    };
-    take(read, number, entry)
-}
-
-/// Takes what was read in a line.
-fn take(read: &mut ReadLines, number: u64, entry: Entry) -> Result<(), ReadingError>
-    requires { IsEntryInRange entry }
-    ensures ok { OnOk result (GainsEntry number entry read.old read.new) }
-    ensures err { IfErr result (RefusesGain number entry read.old) }
-{
-    match entry {
-        Entry::Operation(op) => take_op(&mut read.replica, number, op),
-        Entry::Command(command) => match read.commands.push(Numbered {
-            line: number,
-            command,
-        }) {
-            Ok(()) => Ok(()),
-            Err(_) => Err(ReadingError::OutOfMemory),
-        },
+    match read_entry(alloc, line, Some(editor)) {
+        Ok(Entry::Operation(op)) => take_op(&mut read.replica, number, op),
+        Ok(Entry::Command(command)) => {
+            let numbered = Numbered {
+                line: number,
+                command,
+            };
+            match read.commands.push(numbered) {
+                Ok(()) => Ok(()),
+                Err(_) => Err(ReadingError::OutOfMemory),
+            }
+        }
+        Err(fault) => Err(line_refusal(number, fault)),
     }
 }

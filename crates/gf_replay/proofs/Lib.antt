@@ -1,3 +1,4 @@
+pub mod GotLemmas
 pub mod TakingLemmas
 pub mod ReadingLemmas
 pub mod SameLemmas

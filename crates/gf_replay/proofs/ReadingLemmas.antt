@@ -1,12 +1,16 @@
 -- How the operations of the lines grow, and what a refused line says of the text.
+use Rattle.std.specs.Prelude.{Err, IfErr, OnOk, Result, ⊤}
 use Rattle.std.proofs.Common.{◌≡◌, ℕ, List, [], ◌∷◌, ◌++◌, drop, length, map, refl, sym, ap, subst}
-use Rattle.std.proofs.Common.{◌∙◌, append_assoc, Ok}
+use Rattle.std.proofs.Common.{◌∙◌, append_assoc, inl, inr, Ok}
 use Rattle.std.proofs.lemmas.List.{map-append, append-nil}
+use Rattle.std.proofs.lemmas.Result.{MatchResult-weaker, on_ok_weaker}
 use Rattle.gf_ops.specs.declared.op.Op.{Op}
 use Rattle.gf_ops.specs.declared.op.OpId.{OpId}
 use Rattle.gf_ops.specs.declared.faults.OpFault.{OpFault}
 use Rattle.gf_json.specs.LineValues.{Got}
 use Rattle.gf_json.specs.OperationLines.{denoted}
+use Rattle.gf_json.specs.declared.line_error.LineError.{LineError}
+use Rattle.gf_json.specs.declared.line_error.LineError.TheVariants as line
 use Rattle.gf_site.specs.ReplicaState.{ReplicaState}
 use Rattle.gf_replay.specs.declared.reading_error.LineCause.{LineCause}
 use Rattle.gf_replay.specs.declared.reading_error.LineCause.TheVariants as cause
@@ -15,31 +19,16 @@ use Rattle.gf_replay.specs.declared.reading_error.ReadingError.TheVariants as re
 use Rattle.gf_causal.specs.HeldOperations.{AreHeld}
 use Rattle.gf_replay.specs.Denoting.{Denotes}
 use Rattle.gf_replay.specs.Refusing.{Drops, HasFault, IsAt, IsFault, RefusesText}
-use Rattle.gf_replay.specs.LineSteps.{DropsLine, HasRead, IsLineFault, TakesLine, RefusesLine}
+use Rattle.gf_replay.specs.Taking.{DropsBehind, RefusesOp, TakesOp, of_line}
+use Rattle.gf_replay.specs.LineSteps.{HasRead}
 use Rattle.gf_replay.specs.Waiting.{DenotesWaiting}
 use Rattle.gf_replay.specs.declared.blocks.Reading.{Reading}
 use Rattle.gf_replay.specs.Blocks.{AreFirstReadings, AreOfLines, IsBefore, IsReading}
+use Rattle.gf_replay.proofs.GotLemmas.{denotes_read, fault_read}
 use Rattle.gf_replay.proofs.TakingLemmas.{HasTaken-moves, HasTaken-offer, delivers, other_taken}
 use Rattle.gf_replay.proofs.TakingLemmas.{taken_delivery, waiting}
 
--- one line more is taken
-pub HasRead-line : (bytes : List ℕ) (n : ℕ) (line : List ℕ) (left : List (ℕ × List ℕ))
-    (x y : ReplicaState) → HasRead bytes ((n, line) ∷ left) x → TakesLine line x y
-    → HasRead bytes left y
-HasRead-line bytes n line left x y read takes = record {
-  before = read.before ++ (n, line) ∷ [];
-  whole = read.whole ∙ sym (append_assoc read.before ((n, line) ∷ []) left);
-  ops = read.ops ++ takes.op ∷ [];
-  lines =
-      map-append (λ (l : ℕ × List ℕ). denoted l.1) read.before ((n, line) ∷ [])
-      ∙ (ap (λ r. r ++ denoted line ∷ []) read.lines
-      ∙ (ap (λ (r : Got Op). map Ok read.ops ++ r ∷ []) takes.denotes
-      ∙ sym (map-append {B = Got Op} Ok read.ops (takes.op ∷ []))));
-  taken = HasTaken-moves (read.ops ++ takes.op ∷ []) takes.takes.offered y
-      (HasTaken-offer read.ops x read.taken takes.op takes.takes.offered takes.takes.offers)
-      takes.takes.steps.moves;
-  none = takes.takes.steps.none;
-}
+-- ---- behind the last line
 
 -- with no line left, all are taken
 pub Denotes-read : (bytes : List ℕ) (x : ReplicaState) → HasRead bytes [] x → Denotes bytes x.ops
@@ -63,9 +52,28 @@ DenotesWaiting-read bytes x read held =
       others = waiting read.ops x read.taken held;
     }
 
-module _ (bytes : List ℕ) (n : ℕ) (line : List ℕ) (left : List (ℕ × List ℕ)) (x : ReplicaState)
-    (read : HasRead bytes ((n, line) ∷ left) x) where
-  abbrev at_line : IsAt bytes n line
+-- ---- one line
+
+module _ (bytes : List ℕ) (n : ℕ) (text : List ℕ) (left : List (ℕ × List ℕ)) (x : ReplicaState)
+    (read : HasRead bytes ((n, text) ∷ left) x) where
+  -- one operation more is taken
+  pub HasRead-op : (a : Op) → denoted text ≡ Ok a → (y : ReplicaState) → TakesOp a x y
+      → HasRead bytes left y
+  HasRead-op a denotes y takes = record {
+    before = read.before ++ (n, text) ∷ [];
+    whole = read.whole ∙ sym (append_assoc read.before ((n, text) ∷ []) left);
+    ops = read.ops ++ a ∷ [];
+    lines =
+        map-append (λ (l : ℕ × List ℕ). denoted l.1) read.before ((n, text) ∷ [])
+        ∙ (ap (λ r. r ++ denoted text ∷ []) read.lines
+        ∙ (ap (λ (r : Got Op). map Ok read.ops ++ r ∷ []) denotes
+        ∙ sym (map-append {B = Got Op} Ok read.ops (a ∷ []))));
+    taken = HasTaken-moves (read.ops ++ a ∷ []) takes.offered y
+        (HasTaken-offer read.ops x read.taken a takes.offered takes.offers) takes.steps.moves;
+    none = takes.steps.none;
+  }
+
+  abbrev at_line : IsAt bytes n text
   at_line = record {
     before = read.before;
     behind = left;
@@ -76,45 +84,78 @@ module _ (bytes : List ℕ) (n : ℕ) (line : List ℕ) (left : List (ℕ × Lis
     delivers = delivers read.ops x read.taken read.none;
   }
 
-  at_fault : (why : LineCause) → IsLineFault line x why → IsFault read.ops line why
-  at_fault cause.Json f = f
-  at_fault cause.Field f = f
-  at_fault cause.Range f = f
-  at_fault cause.Clash f = record {
-    op = f.op;
-    denotes = f.denotes;
-    other = other_taken read.ops x read.taken f.op f.clash;
-  }
+  fault_at : (why : LineCause) → IsFault read.ops text why → HasFault bytes n why
+  fault_at why f = record { line = text; at = at_line; fault = f }
 
-  dropped : (id : OpId) (fault : OpFault) → DropsLine line x id fault → Drops bytes id fault
-  dropped id fault d =
-      let ops = read.ops ++ d.op ∷ [] in
-      let offered = HasTaken-offer read.ops x read.taken d.op d.behind.offered d.behind.offers in
-      let moved = HasTaken-moves ops d.behind.offered d.behind.drops.state offered
-      d.behind.drops.moves in
+  dropped : (a : Op) → denoted text ≡ Ok a → (id : OpId) (fault : OpFault)
+      → DropsBehind a x id fault → Drops bytes id fault
+  dropped a denotes id fault b =
+      let ops = read.ops ++ a ∷ [] in
+      let offered = HasTaken-offer read.ops x read.taken a b.offered b.offers in
+      let moved = HasTaken-moves ops b.offered b.drops.state offered b.drops.moves in
       record {
         number = n;
-        line = line;
+        line = text;
         at = at_line;
-        last = d.op;
-        denotes = d.denotes;
+        last = a;
+        denotes = denotes;
         one = offered.one;
-        history = d.behind.drops.state.ops;
-        delivery = taken_delivery ops d.behind.drops.state moved;
+        history = b.drops.state.ops;
+        delivery = taken_delivery ops b.drops.state moved;
         valid = moved.valid;
-        op = d.behind.drops.op;
-        there = (offered.all d.behind.drops.op).1 d.behind.drops.there;
-        named = d.behind.drops.named;
-        ready = d.behind.drops.ready;
-        refused = d.behind.drops.refused;
+        op = b.drops.op;
+        there = (offered.all b.drops.op).1 b.drops.there;
+        named = b.drops.named;
+        ready = b.drops.ready;
+        refused = b.drops.refused;
       }
 
-  -- what a line is refused for, the text is
-  pub RefusesText-line : (e : ReadingError) → RefusesLine n line x e → RefusesText bytes e
-  RefusesText-line (reading.Line m why) refused = subst (λ k. HasFault bytes k why) (sym refused.0)
-      (record { line = line; at = at_line; fault = at_fault why refused.1 })
-  RefusesText-line (reading.Dropped id fault) refused = dropped id fault refused
-  RefusesText-line reading.OutOfMemory refused = tt
+  -- what its operation is refused for, the text is
+  pub RefusesText-op : (a : Op) → denoted text ≡ Ok a → (e : ReadingError) → RefusesOp n a x e
+      → RefusesText bytes e
+  RefusesText-op a denotes (reading.Line m cause.Clash) r = subst
+      (λ k. HasFault bytes k cause.Clash) (sym r.0) (fault_at cause.Clash (record {
+        op = a;
+        denotes = denotes;
+        other = other_taken read.ops x read.taken a r.1;
+      }))
+  RefusesText-op a denotes (reading.Line m cause.Json) r = absurd r
+  RefusesText-op a denotes (reading.Line m cause.Field) r = absurd r
+  RefusesText-op a denotes (reading.Line m cause.Range) r = absurd r
+  RefusesText-op a denotes (reading.Dropped id fault) r = dropped a denotes id fault r
+  RefusesText-op a denotes reading.OutOfMemory r = tt
+
+  -- and for its own fault
+  pub RefusesText-fault : (f : LineError) → denoted text ≡ Err f → RefusesText bytes (of_line n f)
+  RefusesText-fault line.Json e = fault_at cause.Json e
+  RefusesText-fault line.Field e = fault_at cause.Field e
+  RefusesText-fault line.Range e = fault_at cause.Range e
+  RefusesText-fault line.OutOfMemory e = tt
+
+-- ---- what a line was read as
+
+module _ (bytes : List ℕ) (k : ℕ × List ℕ) (left : List (ℕ × List ℕ)) (x : ReplicaState)
+    (read : HasRead bytes (k ∷ left) x) (r : Reading) (reads : IsReading k r) where
+  denotes : (a : Op) → r.op ≡ Ok a → denoted k.1 ≡ Ok a
+  denotes a is = denotes_read r.op (denoted k.1) a reads.denoted is
+
+  pub op_taken_of : (a : Op) → r.op ≡ Ok a → (y : ReplicaState) {E : Type 0} (f : Result ⊤ E)
+      → OnOk f (TakesOp a x y) → OnOk f (HasRead bytes left y)
+  op_taken_of a is y f takes = on_ok_weaker f
+      (HasRead-op bytes k.0 k.1 left x read a (denotes a is) y) takes
+
+  pub op_refused_of : (a : Op) → r.op ≡ Ok a → {X : Type 0} (f : Result X ReadingError)
+      → IfErr f (RefusesOp r.number a x) → IfErr f (RefusesText bytes)
+  op_refused_of a is f refused = MatchResult-weaker f refused (λ z t. t)
+      (λ e b. RefusesText-op bytes k.0 k.1 left x read a (denotes a is) e
+      (subst (λ n. RefusesOp n a x e) reads.number b))
+
+  pub fault_refused_of : (f : LineError) → r.op ≡ Err f → RefusesText bytes (of_line r.number f)
+  fault_refused_of f is = elim (fault_read r.op (denoted k.1) f reads.denoted is) [
+    | inl m ↦ subst (λ e. RefusesText bytes (of_line r.number e)) (sym m) tt
+    | inr d ↦ subst (λ n. RefusesText bytes (of_line n f)) (sym reads.number)
+        (RefusesText-fault bytes k.0 k.1 left x read f d)
+  ]
 
 -- ---- the lines of a block
 
@@ -151,21 +192,22 @@ module _ (text : List ℕ) (r : Reading) (rs : List Reading) (others : List (ℕ
 
   -- what was read first is taken
   pub IsBefore-line : (y : ReplicaState)
-      → ((line : ℕ × List ℕ) → IsReading line r → TakesLine line.1 x y) → IsBefore text rs others y
+      → ((line : ℕ × List ℕ) → IsReading line r → (bytes : List ℕ) (left : List (ℕ × List ℕ))
+      → HasRead bytes (line ∷ left) x → HasRead bytes left y) → IsBefore text rs others y
   IsBefore-line y takes = record {
     lines = first_line.others;
-    read = HasRead-line text first_line.line.0 first_line.line.1 first_line.others x y read_so_far
-        (takes first_line.line first_line.reading);
+    read = takes first_line.line first_line.reading text first_line.others read_so_far;
     first = first_line.rest;
     behind = before.behind ∙ ap (drop (length (r ∷ rs))) first_line.is;
   }
 
   -- what was read first is refused
   pub RefusesText-first : (e : ReadingError)
-      → ((line : ℕ × List ℕ) → IsReading line r → RefusesLine line.0 line.1 x e)
+      → ((line : ℕ × List ℕ) → IsReading line r → (bytes : List ℕ) (left : List (ℕ × List ℕ))
+      → HasRead bytes (line ∷ left) x → RefusesText bytes e)
       → RefusesText text e
-  RefusesText-first e refuses = RefusesText-line text first_line.line.0 first_line.line.1
-      first_line.others x read_so_far e (refuses first_line.line first_line.reading)
+  RefusesText-first e refuses = refuses first_line.line first_line.reading text first_line.others
+      read_so_far
 
 -- with nothing left of a block, the lines behind it are left
 pub HasRead-block : (text : List ℕ) (readings : List Reading) (others : List (ℕ × List ℕ))

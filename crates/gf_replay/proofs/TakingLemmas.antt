@@ -29,17 +29,13 @@ use Rattle.gf_causal.proofs.CourseLemmas.{number_counted, delivered_part}
 use Rattle.gf_site.specs.ReplicaState.{ReplicaState}
 use Rattle.gf_site.specs.ReplicaSteps.{AppliesNext, ForgetsNext}
 use Rattle.gf_site.proofs.CourseLemmas.{all_ready}
-use Rattle.gf_json.specs.LineValues.{Got}
-use Rattle.gf_json.specs.OperationLines.{denoted}
-use Rattle.gf_json.specs.declared.line_error.LineError.TheVariants as line
-use Rattle.gf_replay.specs.declared.reading_error.LineCause.TheVariants as cause
 use Rattle.gf_replay.specs.declared.reading_error.ReadingError.{ReadingError}
 use Rattle.gf_replay.specs.declared.reading_error.ReadingError.TheVariants as reading
 use Rattle.gf_replay.specs.Denoting.{Delivers}
 use Rattle.gf_replay.specs.Waiting.{AreWaiting}
 use Rattle.gf_replay.specs.Taking.{HasOrHolds, HoldsOthers, KeepsAll, Offers, again, new, Moves}
 use Rattle.gf_replay.specs.Taking.{StepsAll, DropsReady, HasTaken, TakesOp, RefusesOp}
-use Rattle.gf_replay.specs.LineSteps.{TakesLine, RefusesLine, RefusesStepping}
+use Rattle.gf_replay.specs.LineSteps.{RefusesStepping}
 
 -- ---- one operation more
 
@@ -302,7 +298,7 @@ waiting ops x t held = record {
   rising = held.rising;
 }
 
--- ---- one operation, and the line that denotes it
+-- ---- one operation
 
 -- an offer that was not refused holds the operation, or finds it there
 pub offered : (x y : ReplicaState) (a : Op) (r : Result Offered OfferFault) (o : Offered)
@@ -330,32 +326,3 @@ op_refused n a x y (Err (reading.Dropped id fault)) offers refused = record {
 }
 op_refused n a x y (Err reading.OutOfMemory) offers refused = tt
 op_refused n a x y (Err (reading.Line m why)) offers refused = absurd refused
-
--- an operation that was read is the one that the line denotes
-pub denotes_read : (bytes : List ℕ) (r : Got Op) (a : Op)
-    → (r ≡ Err line.OutOfMemory) ⊎ (r ≡ denoted bytes) → r ≡ Ok a → denoted bytes ≡ Ok a
-denotes_read bytes r a (inl e) f = let g = sym e ∙ f in absurd cc
-denotes_read bytes r a (inr e) f = sym e ∙ f
-
-pub line_taken : (bytes : List ℕ) (x z : ReplicaState) (a : Op) (r : Result ⊤ ReadingError)
-    → denoted bytes ≡ Ok a → OnOk r (TakesOp a x z) → OnOk r (TakesLine bytes x z)
-line_taken bytes x z a (Ok u) denotes takes = record { op = a; denotes = denotes; takes = takes }
-line_taken bytes x z a (Err e) denotes takes = tt
-
--- a line whose operation is refused is refused for that
-pub line_refused : (n : ℕ) (bytes : List ℕ) (x : ReplicaState) (a : Op) (r : Result ⊤ ReadingError)
-    → denoted bytes ≡ Ok a → IfErr r (RefusesOp n a x) → IfErr r (RefusesLine n bytes x)
-line_refused n bytes x a (Ok u) denotes refused = tt
-line_refused n bytes x a (Err (reading.Line m cause.Clash)) denotes refused = (
-  refused.0,
-  record { op = a; denotes = denotes; clash = refused.1 },
-)
-line_refused n bytes x a (Err (reading.Line m cause.Json)) denotes refused = absurd refused
-line_refused n bytes x a (Err (reading.Line m cause.Field)) denotes refused = absurd refused
-line_refused n bytes x a (Err (reading.Line m cause.Range)) denotes refused = absurd refused
-line_refused n bytes x a (Err (reading.Dropped id fault)) denotes refused = record {
-  op = a;
-  denotes = denotes;
-  behind = refused;
-}
-line_refused n bytes x a (Err reading.OutOfMemory) denotes refused = tt

@@ -1,13 +1,13 @@
 //! From the lines of a text to a replica.
 
-ghost use Rattle.std.specs.Prelude.{◌≤◌, List, ℕ, IfOk, IfErr, IsTrue, OnOk};
+ghost use Rattle.std.specs.Prelude.{◌≤◌, ◌∷◌, List, ℕ, IfOk, IfErr, IsTrue, OnOk};
 ghost use denote.Param.Send.{IsSync};
 ghost use Rattle.gf_ops.specs.Limits.{IsInRange};
 ghost use Rattle.gf_replay.specs.Blocks.{AreOfLines, IsBefore, IsBlock, IsReading, TakesBlock};
 ghost use Rattle.gf_replay.specs.Denoting.{Denotes};
 ghost use Rattle.gf_replay.specs.Refusing.{RefusesText};
 ghost use Rattle.gf_replay.specs.Waiting.{DenotesWaiting};
-ghost use Rattle.gf_replay.specs.LineSteps.{HasRead, RefusesLine, TakesLine};
+ghost use Rattle.gf_replay.specs.LineSteps.{HasRead};
 
 use crate::blocks::{Block, Reading, read_block};
 use crate::{ReadingError, line_refusal, take_op};
@@ -116,10 +116,12 @@ fn take_block(replica: Replica, readings: Vec<Reading>) -> Result<Replica, Readi
 /// Takes what a line reads as.
 fn take_reading(replica: &mut Replica, reading: Reading) -> Result<(), ReadingError>
     requires { IfOk reading.op (λ op. IsInRange op) }
-    ensures ok { (line : ℕ × List ℕ) → IsReading line reading →
-        OnOk result (TakesLine line.1 replica.old replica.new) }
-    ensures err { (line : ℕ × List ℕ) → IsReading line reading →
-        IfErr result (RefusesLine line.0 line.1 replica.old) }
+    ensures ok { (line : ℕ × List ℕ) → IsReading line reading
+        → (text : List ℕ) (left : List (ℕ × List ℕ)) → HasRead text (line ∷ left) replica.old
+        → OnOk result (HasRead text left replica.new) }
+    ensures err { (line : ℕ × List ℕ) → IsReading line reading
+        → (text : List ℕ) (left : List (ℕ × List ℕ)) → HasRead text (line ∷ left) replica.old
+        → IfErr result (RefusesText text) }
 {
     let Reading { number, op } = reading;
     match op {

@@ -1,7 +1,7 @@
 use Rattle.std.proofs.Common.{◌≡◌, length, rules, subst, sym}
 use Rattle.std.specs.Vec.Iter.{into_iter_items}
 use Rattle.std.proofs.lemmas.Result.{err_from_is_err_and}
-use Rattle.gf_replay.specs.LineSteps.{RefusesLine}
+use Rattle.gf_replay.specs.Refusing.{RefusesText}
 use Rattle.gf_replay.proofs.ReadingLemmas.{AreOfLines-rest, HasRead-block, IsBefore-line}
 use Rattle.gf_replay.proofs.ReadingLemmas.{RefusesText-first}
 use Rattle.gf_replay.proofs.reading.take_block.Goals as goal
@@ -26,8 +26,8 @@ returns-in_err-take_reading c =
       err = λ text others whole.
           RefusesText-first text c.in-Some.reading _ others c.loop-reading.replica
           (rw steps at c.loop-reading.invariant.before text others whole) _
-          (λ line reads. subst (λ e. RefusesLine line.0 line.1 c.loop-reading.replica e) (sym p.2)
-          (c.in_err-take_reading.ensures.err line reads));
+          (λ line reads bytes left read. subst (RefusesText bytes) (sym p.2)
+          (c.in_err-take_reading.ensures.err line reads bytes left read));
     })
 
 pub returns : goal.returns

@@ -1,16 +1,17 @@
-use Rattle.std.proofs.Common.{subst}
-use Rattle.std.specs.Prelude.{IfErr}
-use Rattle.gf_replay.specs.LineSteps.{RefusesLine}
-use Rattle.gf_replay.proofs.TakingLemmas.{denotes_read, line_refused, line_taken}
+use Rattle.gf_replay.proofs.ReadingLemmas.{fault_refused_of, op_refused_of, op_taken_of}
 use Rattle.gf_replay.proofs.reading.take_reading.Goals as goal
 
 pub returns-in-Ok-clause-ok : goal.returns-in-Ok-clause-ok
-returns-in-Ok-clause-ok c = λ line reads. line_taken line.1 c.args.replica.now
-    c.take_op.new.replica
-    c.in-Ok.op c.take_op.result (denotes_read _ _ _ reads.denoted c.in-Ok.is) c.take_op.ensures.ok
+returns-in-Ok-clause-ok c = λ line reads text left read.
+    op_taken_of text line left c.args.replica.now read c.args.reading reads c.in-Ok.op c.in-Ok.is
+    c.take_op.new.replica c.take_op.result c.take_op.ensures.ok
 
 pub returns-in-Ok-clause-err : goal.returns-in-Ok-clause-err
-returns-in-Ok-clause-err c = λ line reads.
-    subst (λ n. IfErr c.take_op.result (RefusesLine n line.1 c.args.replica.now)) reads.number
-    (line_refused c.args.reading.number line.1 c.args.replica.now c.in-Ok.op c.take_op.result
-    (denotes_read _ _ _ reads.denoted c.in-Ok.is) c.take_op.ensures.err)
+returns-in-Ok-clause-err c = λ line reads text left read.
+    op_refused_of text line left c.args.replica.now read c.args.reading reads c.in-Ok.op c.in-Ok.is
+    c.take_op.result c.take_op.ensures.err
+
+pub returns-in-Err-clause-err : goal.returns-in-Err-clause-err
+returns-in-Err-clause-err c = λ line reads text left read. rw c.line_refusal.ensures
+    (fault_refused_of text line left c.args.replica.now read c.args.reading reads c.in-Err.fault
+    c.in-Err.is)
