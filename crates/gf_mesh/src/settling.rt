@@ -1,9 +1,9 @@
 //! The end of all links, once no worker runs any more.
 
-ghost use Rattle.std.specs.Prelude.{◌≡◌, [], length, IsTrue};
+ghost use Rattle.std.specs.Prelude.{◌≡◌, ◌++◌, ◌∷◌, [], IsTrue};
 ghost use Rattle.gf_link.specs.Ends.{is_ended};
-ghost use Rattle.gf_mesh.specs.Linked.{HaveEnded, rows_of, seats_of};
-ghost use Rattle.gf_mesh.specs.Mesh.{IsMesh, IsLinked, HaveExchanged, Exchanged};
+ghost use Rattle.gf_mesh.specs.Linked.{AreLinked, HaveEnded, rows_of};
+ghost use Rattle.gf_mesh.specs.Meeting.{AreTaken, HaveExchanged};
 ghost use Rattle.gf_mesh.specs.Settled.{AreAllTaken};
 
 use crate::Mesh;
@@ -15,7 +15,7 @@ impl Mesh {
     /// Settles all links, with the peers that the sites have by then. Each site took from every
     /// other all that it sent.
     pub fn settle<R: Wait>(self, rt: &R, mut peers: Vec<Vec<Peer>>)
-        requires seats { seats_of (rows_of peers.items) ≡ self.seats }
+        requires linked { AreLinked self (rows_of peers.items) }
         requires ended { HaveEnded (rows_of peers.items) }
         ensures { AreAllTaken (rows_of peers.items) }
     {
@@ -28,10 +28,10 @@ impl Mesh {
 
 /// Settles the links between the last site, of these peers, and all before it.
 fn settle_row<R: Wait>(rt: &R, links: &mut Vec<Link>, rows: &mut [Vec<Peer>], mut row: Vec<Peer>)
-    requires { IsMesh IsLinked links.old.items (rows_of rows.old) row.items }
-    ensures mesh { IsMesh IsLinked links.new.items (rows_of rows.new) [] }
-    ensures exchanged { IsMesh Exchanged links.new.items (rows_of rows.new) []
-        → IsMesh Exchanged links.old.items (rows_of rows.old) row.items }
+    requires { AreLinked links.old.items (rows_of rows.old ++ row.items ∷ [])
+        × HaveEnded (rows_of rows.old ++ row.items ∷ []) }
+    ensures rest { AreLinked links.new.items (rows_of rows.new) × HaveEnded (rows_of rows.new) }
+    ensures taken { AreTaken (rows_of rows.new) → AreTaken (rows_of rows.old ++ row.items ∷ []) }
 {
     while let Some(mine) = row.pop() {
         let Some(theirs) = rows[row.len()].pop() else {

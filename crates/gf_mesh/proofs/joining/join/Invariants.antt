@@ -1,9 +1,10 @@
-use Rattle.std.proofs.Common.{◌≡◌, vec_len}
-use Rattle.gf_mesh.specs.Mesh.{IsMesh, Connects}
+use Rattle.std.proofs.Common.{length}
+use Rattle.gf_worker.specs.Peers.{IsFresh}
 use Rattle.gf_mesh.specs.Linked.{rows_of}
+use Rattle.gf_mesh.proofs.MeetingLemmas.{AreMeeting}
 use Rattle.gf_mesh.proofs.joining.join.Given as goal
 
--- the new site has met the sites so far
+-- the new site has met the first of the others
 abbrev pub invariant-loop-other : goal.invariant-loop-other
-invariant-loop-other g l = IsMesh Connects l.links.items (rows_of l.rows) l.row.items
-    × (vec_len l.row ≡ l.other-index)
+invariant-loop-other g l = AreMeeting IsFresh (length l.initial.rows) l.other-index l.links.items
+    (rows_of l.rows) l.row.items
