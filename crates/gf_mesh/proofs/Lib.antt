@@ -1,4 +1,4 @@
 pub mod MeetingLemmas
 pub mod PlaceLemmas
 pub mod RowLemmas
-pub mod TakenLemmas
+pub mod SettlingLemmas

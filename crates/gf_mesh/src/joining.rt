@@ -1,6 +1,6 @@
 //! How sites are joined, one after the other.
 
-ghost use Rattle.std.specs.Prelude.{◌≡◌, ◌++◌, ◌∷◌, [], IfOk, vec_len};
+ghost use Rattle.std.specs.Prelude.{◌≡◌, IfOk, vec_len};
 ghost use Rattle.gf_worker.specs.Peers.{IsFresh};
 ghost use Rattle.gf_mesh.specs.Linked.{AreLinked, EachPeer, rows_of};
 ghost use Rattle.gf_mesh.specs.Meeting.{Connects};
@@ -40,9 +40,14 @@ impl Mesh {
         ensures fresh { IfOk result (λ m. EachPeer IsFresh (rows_of m.1.items)) }
     {
         let mut links = Vec::new(alloc);
-        let mut peers = Vec::new(alloc);
+        let mut peers: Vec<Vec<Peer>> = Vec::new(alloc);
         for _ in 0..sites {
-            let row = join(rt, alloc, &mut links, &mut peers)?;
+            let mut row = Vec::new(alloc);
+            for other in peers.iter_mut() {
+                let (theirs, mine) = connect(rt, alloc, &mut links)?;
+                other.push(theirs)?;
+                row.push(mine)?;
+            }
             peers.push(row)?;
         }
         Ok((Mesh { links }, peers))
@@ -54,28 +59,6 @@ impl Mesh {
     {
         self.links.as_slice()
     }
-}
-
-/// Joins one more site to the others, each of which gets it as a peer. The call gives the peers of
-/// the new site.
-fn join<R: Wait>(
-    rt: &R,
-    alloc: Global,
-    links: &mut Vec<Link>,
-    rows: &mut [Vec<Peer>],
-) -> Result<Vec<Peer>, OutOfMemory>
-    requires { AreLinked links.old.items (rows_of rows.old) × EachPeer IsFresh (rows_of rows.old) }
-    ensures { IfOk result (λ row.
-        AreLinked links.new.items (rows_of rows.new ++ row.items ∷ [])
-        × EachPeer IsFresh (rows_of rows.new ++ row.items ∷ [])) }
-{
-    let mut row = Vec::new(alloc);
-    for other in rows.iter_mut() {
-        let (theirs, mine) = connect(rt, alloc, links)?;
-        other.push(theirs)?;
-        row.push(mine)?;
-    }
-    Ok(row)
 }
 
 /// Two more links, one each way between two sites, and what the sites have each other as.
