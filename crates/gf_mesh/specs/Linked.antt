@@ -20,8 +20,8 @@ abbrev pub links_of : ℕ → ℕ
 links_of zero = 0
 links_of (suc n) = links_of n + 2 * n
 
--- s is the seat of the site i for the site j. The links between two sites stand side by side, behind
--- those of all earlier sites: first the one to the later site, then the one back
+-- s is the seat of the site i for the site j. The links of a site with all earlier ones stand
+-- together, in the order of these. For each of them, first comes the link to the later site
 pub record IsSeat (i j : ℕ) (s : Seat) : Type 0 where
   pub later : i < j → (s.out ≡ links_of j + 2 * i) × (s.into ≡ s.out + 1)
   pub earlier : j < i → (s.into ≡ links_of i + 2 * j) × (s.out ≡ s.into + 1)
