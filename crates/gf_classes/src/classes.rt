@@ -151,7 +151,8 @@ fn classes_over(
     requires { AreGiven history.now.ops positions.now direct }
     ensures { IfOk result (λ found. AreClassesOf history.now.ops positions.now found) }
 {
-    history.recall_valid();
+    // The clauses of `ops` say that the history is valid, and its operations are a slice.
+    let _ = history.ops();
     let mut joints = Joints::new(alloc);
     let slots = slots_of(alloc, history, positions, &direct, &mut joints)?;
     let rows = all_rows(alloc, direct.into_rows(), joints.owns())?;

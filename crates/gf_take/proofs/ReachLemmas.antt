@@ -12,8 +12,9 @@ use Rattle.gf_base.proofs.FilterLemmas.{Contains-filter}
 use Rattle.gf_ops.specs.declared.op.Op.{Op}
 use Rattle.gf_ops.specs.declared.op.Clock.{Clock}
 use Rattle.gf_ops.specs.Accepted.{AreAccepted, IsAccepted}
-use Rattle.gf_ops.specs.OperationOrder.{IsSite, Precedes, entry}
+use Rattle.gf_ops.specs.OperationOrder.{IsSite, Precedes, count_of, entry}
 use Rattle.gf_ops.specs.ValidHistory.{IsValid}
+use Rattle.gf_ops.proofs.CountedLemmas.{number_counted}
 use Rattle.gf_ops.proofs.HistoryLemmas.{seq_in_range, site_in_range}
 use Rattle.gf_ops.proofs.ValidityLemmas.{same_op}
 use Rattle.gf_causal.proofs.CourseLemmas.{same_id}
@@ -182,6 +183,18 @@ module _ (s : ℕ) (c : Clock) where
         λ k. (Contains-filter (is_counted reach) h a).1 (k.contained, known_counted a k),
       );
       accepted = kept_accepted h valid (is_counted reach) counted_closed run (λ x m. m);
+    }
+
+    -- a history whose last operation of each site is reached is its own base
+    pub whole_base : AreAccepted h → ((t : ℕ) → IsSite t → count_of h t ≤ entry reach t)
+        → IsBase s c h h
+    whole_base run all = record {
+      exactly = λ a. (
+        λ m. let most = number_counted h valid a m in let l = all a.id.site (site_of a m) in
+            counted_known a m (le-leb a.id.seq (entry reach a.id.site) (omega arith)),
+        λ k. k.contained,
+      );
+      accepted = run;
     }
 
 -- ---- one item of the history

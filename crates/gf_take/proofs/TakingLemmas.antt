@@ -1,24 +1,18 @@
 -- How what a site made grows by a change, and what it then shows.
-use Rattle.std.proofs.Common.{◌≡◌, ℕ, List, [], ◌∷◌, ◌++◌, sym, ap, subst, ◌∙◌, append_assoc}
+use Rattle.std.proofs.Common.{◌≡◌, ℕ, List, [], ◌∷◌, ◌++◌, sym, ap, subst, ◌∙◌, inl, inr}
+use Rattle.std.proofs.Common.{append_assoc}
 use Rattle.std.proofs.lemmas.List.{append-nil}
-use Rattle.gf_shape.specs.declared.outline.Outline.{Outline}
 use Rattle.gf_ops.specs.declared.op.Op.{Op}
 use Rattle.gf_ops.specs.declared.change.Change.{Change}
-use Rattle.gf_ops.specs.Accepted.{AreAccepted, IsAccepted}
+use Rattle.gf_ops.specs.Accepted.{IsAccepted}
 use Rattle.gf_ops.specs.Limits.{IsInRange}
-use Rattle.gf_ops.specs.ValidHistory.{IsValid}
 use Rattle.gf_site.specs.SiteState.{SiteState, authored}
 use Rattle.gf_site.specs.Events.{Refuses}
-use Rattle.gf_visible.specs.ShownVersions.{HasMoreVisible}
-use Rattle.gf_figures.specs.DrawingState.{DrawingState}
-use Rattle.gf_drawing.specs.CanonicalDrawing.{PaintsAsFig}
 use Rattle.gf_site.specs.MadeEach.{none}
-use Rattle.gf_site.proofs.EachLemmas.{each_accepted, each_push, each_valid}
-use Rattle.gf_take.specs.declared.take_error.TakeError.{TakeError}
-use Rattle.gf_take.specs.declared.take_error.TakeError.TheVariants as take
-use Rattle.gf_take.specs.ShownDrawing.{ShowsDrawing}
-use Rattle.gf_take.specs.Taking.{RefusesTake, ShowsTooMany, Takes}
-use Rattle.gf_take.specs.TakingSteps.{HasMade, MakesOne, RefusesAll, RefusesOne}
+use Rattle.gf_site.proofs.EachLemmas.{each_push}
+use Rattle.gf_site.specs.declared.faults.AuthorFault.{AuthorFault}
+use Rattle.gf_take.specs.Taking.{HasMade, RefusesMaking}
+use Rattle.gf_take.specs.TakingSteps.{MakesOne, RefusesOne}
 
 -- before the first change nothing was made
 pub made_none : (s : ℕ) (h : List Op) (x : SiteState) (ops : List Op) → x.number ≡ s → x.ops ≡ h
@@ -48,8 +42,9 @@ module _ (s : ℕ) (h : List Op) (done : List Change) (x : SiteState) (new : Lis
 
   -- what a change is refused for, they all are
   pub refused_there : (c : Change) (rest changes : List Change) → changes ≡ done ++ c ∷ rest
-      → (e : TakeError) → RefusesOne c x e → RefusesAll s h changes e
-  refused_there c rest changes whole (take.Refused why) r = record {
+      → (why : AuthorFault) → RefusesOne c x why → RefusesMaking s h changes why
+  refused_there c rest changes whole why (inl e) = inl e
+  refused_there c rest changes whole why (inr r) = inr (record {
     before = done;
     change = c;
     after = rest;
@@ -57,28 +52,5 @@ module _ (s : ℕ) (h : List Op) (done : List Change) (x : SiteState) (new : Lis
     new = new;
     makes = has.makes;
     refused = subst (λ l. Refuses s l c why) has.ops
-        (subst (λ k. Refuses k x.ops c why) has.number r.0);
-    other = r.1;
-  }
-  refused_there c rest changes whole take.TooManyFigures r = absurd r
-  refused_there c rest changes whole take.Differs r = absurd r
-  refused_there c rest changes whole take.OutOfMemory r = tt
-
-  -- what was made is taken where the site shows the drawing
-  pub taken : (d : DrawingState Outline) → AreAccepted h → IsValid h → ShowsDrawing x.ops d
-      → PaintsAsFig x.ops d → Takes s h done new d
-  taken d run valid shows paints = record {
-    makes = has.makes;
-    accepted = each_accepted s h done new run has.makes;
-    valid = each_valid s h done new run valid has.makes;
-    shows = subst (λ l. ShowsDrawing l d) has.ops shows;
-    paints = subst (λ l. PaintsAsFig l d) has.ops paints;
-  }
-
--- a change that was not made refuses the take
-pub not_made : (s : ℕ) (h : List Op) (changes : List Change) (d : DrawingState Outline)
-    (e : TakeError) → RefusesAll s h changes e → RefusesTake s h changes d e
-not_made s h changes d (take.Refused why) r = r
-not_made s h changes d take.TooManyFigures r = absurd r
-not_made s h changes d take.Differs r = absurd r
-not_made s h changes d take.OutOfMemory r = tt
+        (subst (λ k. Refuses k x.ops c why) has.number r);
+  })

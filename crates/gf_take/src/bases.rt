@@ -1,7 +1,7 @@
 //! The base of a site: what a designer saw, all that the site made, and what these know.
 
-ghost use Rattle.std.specs.Prelude.{◌≡◌, ◌≤◌, [], ◌∷◌, IfOk};
-ghost use Rattle.gf_ops.specs.OperationOrder.{IsSite};
+ghost use Rattle.std.specs.Prelude.{◌≡◌, ◌≤◌, [], ◌∷◌, IfOk, IsTrue};
+ghost use Rattle.gf_ops.specs.OperationOrder.{IsSite, entry};
 ghost use Rattle.gf_ops.specs.ValidHistory.{IsValid};
 ghost use Rattle.gf_take.specs.Bases.{IsBase};
 ghost use Rattle.gf_take.specs.Reaching.{AreReached, IsReach, is_counted, is_seen, reach_at};
@@ -34,6 +34,21 @@ pub fn base_site(
         }
     }
     Ok(base)
+}
+
+/// Whether the base of a site is all of a history: what the site saw reaches to the last operation
+/// of each site.
+pub fn is_whole_base(site: u8, history: &History, seen: &Clock) -> bool
+    requires { IsSite site }
+    ensures { IsTrue result → IsBase site seen.now history.now.ops history.now.ops }
+{
+    let reach = reach(site, seen, history.ops());
+    for of in 1..9 {
+        if entry(&reach, of) < history.count(of) {
+            return false;
+        }
+    }
+    true
 }
 
 /// How far the operations reach that a site saw: for each site the greatest number among them and
@@ -87,6 +102,14 @@ fn reach_at(of: u8, op: &Op) -> u32
     } else {
         op.past.0[usize::from(of) - 1]
     }
+}
+
+/// How many operations of a site a clock counts.
+fn entry(clock: &Clock, of: u8) -> u32
+    requires { IsSite of }
+    ensures { result ≡ entry clock.now of }
+{
+    clock.0[usize::from(of) - 1]
 }
 
 /// Whether a clock counts the operation.

@@ -34,14 +34,12 @@ zip_at Q xs ys z k x y ex ey =
     let at : IsSomeAnd (slice_get ys k) (Q x) = rw ex at (AllZip-left Q xs ys z k) in
     rw ey at at
 
--- what holds of the changes so far and of the next one holds of these
-pub meant_more : (P : Change → Type 0) (changes : List Change) (k : ℕ) (c : Change)
-    → k < length changes → c ≡ get_or changes k c → All P (take k changes) → P c
-    → All P (take (k + 1) changes)
-meant_more P changes k c l is all p =
-    subst (All P)
-    (sym (take_more changes k c l ∙ ap (λ (b : Change). take k changes ++ b ∷ []) (sym is)))
-    (All-push P (take k changes) c all p)
+-- what holds of the items so far and of the next one holds of these
+pub all_more : {X : Type 0} (P : X → Type 0) (xs : List X) (k : ℕ) (x : X) → k < length xs
+    → x ≡ get_or xs k x → All P (take k xs) → P x → All P (take (k + 1) xs)
+all_more {X} P xs k x l is all p =
+    subst (All P) (sym (take_more xs k x l ∙ ap (λ (b : X). take k xs ++ b ∷ []) (sym is)))
+    (All-push P (take k xs) x all p)
 
 -- a version has one name
 name_is_one : (h : List Op) (items : List (Placed AnyShape)) (i : Placed AnyShape) (n m : Name)
@@ -95,8 +93,11 @@ module _ (h : List Op) (fig : List ℕ) (d : Drawn) (names : List (Option Named)
       Meant : ObjectId → Type 0
       Meant o = (¬ (IsOnItem items o)) ⊎ HasNoFigure d names items own o
 
-  pub left_all : (changes : List Change) (k : ℕ) → length changes ≤ k
-      → All (IsMeant d names items own) (take k changes) → All (LeavesStanding h fig d) changes
-  left_all changes k end all =
-      All-weaker (IsMeant d names items own) (LeavesStanding h fig d) left_one changes
-      (subst (All (IsMeant d names items own)) (take_all k changes end) all)
+  pub left_all : (ops : List Op) (k : ℕ) → length ops ≤ k
+      → All (λ (a : Op). IsMeant d names items own a.change) (take k ops)
+      → All (λ (a : Op). LeavesStanding h fig d a.change) ops
+  left_all ops k end all =
+      let Meant : Op → Type 0 = λ a. IsMeant d names items own a.change in
+      let Leaves : Op → Type 0 = λ a. LeavesStanding h fig d a.change in
+      All-weaker Meant Leaves (λ (a : Op). left_one a.change) ops
+      (subst (All Meant) (take_all k ops end) all)

@@ -1,5 +1,6 @@
 pub mod PartingLemmas
 pub mod SeenLemmas
+pub mod MakingLemmas
 pub mod TakeLemmas
 pub mod CountingLemmas
 pub mod JoinedLemmas

@@ -25,11 +25,14 @@ on_shown h items fig ranked (Set o v aim) (inl on) = inl (record {
 })
 
 pub all_on_shown : (h : List Op) (items : List (Placed AnyShape)) (fig : List ℕ)
-    → AreRanked h items → (changes : List Change) (k : ℕ) → length changes ≤ k
-    → All (IsOnOne items fig) (take k changes) → All (MayChange h fig) changes
-all_on_shown h items fig ranked changes k end all =
-    All-weaker (IsOnOne items fig) (MayChange h fig) (on_shown h items fig ranked) changes
-    (subst (All (IsOnOne items fig)) (take_all k changes end) all)
+    → AreRanked h items → (ops : List Op) (k : ℕ) → length ops ≤ k
+    → All (λ (a : Op). IsOnOne items fig a.change) (take k ops)
+    → All (λ (a : Op). MayChange h fig a.change) ops
+all_on_shown h items fig ranked ops k end all =
+    let On : Op → Type 0 = λ a. IsOnOne items fig a.change in
+    let May : Op → Type 0 = λ a. MayChange h fig a.change in
+    All-weaker On May (λ (a : Op). on_shown h items fig ranked a.change) ops
+    (subst (All On) (take_all k ops end) all)
 
 -- where none so far is of the object, and the next one is not, none up to this is
 pub none_more : (items : List (Placed AnyShape)) (k : ℕ) (item : Placed AnyShape) (o : ObjectId)

@@ -2,7 +2,9 @@
 use Rattle.std.proofs.Common.{◌≡◌, ℕ, ◌+◌, ◌<◌, ◌≤◌, List, [], ◌∷◌, ◌++◌, length, get_or, take}
 use Rattle.std.proofs.Common.{refl}
 use Rattle.std.proofs.Common.{sym, ap, subst, ◌∙◌, inl, inr}
-use Rattle.std.specs.Prelude.{All, Err, IfErr, IfOk, IfSome, None, Ok, Option, Result, Some}
+use Rattle.std.proofs.Common.{Global}
+use Rattle.std.specs.Prelude.{◌⊎◌, Err, IfErr, IfOk, IfSome, IsSomeAnd, None, Ok, Option, Result}
+use Rattle.std.specs.Prelude.{Some, Vec}
 use Rattle.std.proofs.lemmas.Grind.{flat_map-append}
 use Rattle.std.proofs.lemmas.List.{append-nil, take_more}
 use Rattle.std.proofs.lemmas.List.Elements.{Contains-push_cases}
@@ -16,7 +18,6 @@ use Rattle.gf_site.specs.ReplicaState.{ReplicaState}
 use Rattle.gf_site.specs.SiteState.{at_site}
 use Rattle.gf_replay.specs.Denoting.{AreLinesOf}
 use Rattle.gf_replay.specs.Waiting.{DenotesWaiting}
-use Rattle.gf_streams.specs.Taken.{AppendsPrefix}
 use Rattle.gf_streams.specs.TextLines.{numbered_lines}
 use Rattle.gf_edit.specs.EntrySteps.{HoldsBlocking, IsUnblocked}
 use Rattle.gf_edit.specs.MadeOperations.{made_of, made_until}
@@ -29,24 +30,16 @@ use Rattle.gf_ops.specs.declared.op.Clock.{Clock}
 use Rattle.gf_ops.specs.declared.change.Change.{Change}
 use Rattle.gf_fig_named.specs.ThinPolygons.{AreThinOf}
 use Rattle.gf_fig_read.specs.Objects.{Drawn}
-use Rattle.gf_run.specs.declared.studio_error.StudioError.{StudioError}
-use Rattle.gf_run.specs.declared.studio_error.StudioError.TheVariants as studio
-use Rattle.gf_run.specs.RefusedRuns.{IsBetween}
-use Rattle.gf_run.specs.RefusedRuns.{IsOfInput, IsOfRun}
-use Rattle.gf_run.specs.RunAnswers.{WritesPrefix}
+use Rattle.gf_run.specs.Answers.{Refuses}
+use Rattle.gf_run.specs.RefusedRuns.{IsOfRun}
 use Rattle.gf_site.specs.MadeEach.{MakesEach, next as each_next, none as each_none}
 use Rattle.gf_take.specs.Bases.{IsBase}
 use Rattle.gf_take.specs.ShownDrawing.{LooksLike}
-use Rattle.gf_take.specs.Taking.{HasRefusal, RefusesTake, Takes}
-use Rattle.gf_take.specs.declared.take_error.TakeError.TheVariants as taking
 use Rattle.gf_take.proofs.AlikeLemmas.{like_shows, like_takes}
 use Rattle.gf_take.proofs.FrontLemmas.{shown_paints}
 use Rattle.gf_fig_read.specs.FigGrammar.{Reads}
 use Rattle.gf_fig_read.proofs.LawfulLemmas.{lawful_read}
-use Rattle.gf_ops.specs.declared.op.ObjectId.{ObjectId}
 use Rattle.gf_ops.specs.ValidHistory.{IsValid}
-use Rattle.gf_site.specs.declared.faults.AuthorFault.{AuthorFault}
-use Rattle.gf_site.specs.declared.faults.AuthorFault.TheVariants as author
 use Rattle.std.proofs.lemmas.List.Elements.{All-nil}
 use Rattle.gf_take_run.specs.declared.drawing_error.DrawingError.{DrawingError}
 use Rattle.gf_take_run.specs.declared.drawing_error.DrawingError.TheVariants as error
@@ -59,17 +52,18 @@ use Rattle.gf_take_run.specs.ToldNumbers.{CountsObjects, alters, creates, hides}
 use Rattle.gf_take_run.specs.declared.take_run_error.TakeRunError.{TakeRunError}
 use Rattle.gf_take_run.specs.declared.take_run_error.TakeRunError.TheVariants as refused
 use Rattle.gf_take_run.specs.declared.taken.Taken.{Taken}
-use Rattle.gf_take_run.specs.declared.taking.TakenText.{TakenText}
+use Rattle.gf_take_run.specs.declared.behind.MadeBehind.{MadeBehind}
+use Rattle.gf_run.specs.declared.answering.Answer.{Answer}
 use Rattle.gf_take_run.specs.Parting.{IsParted}
 use Rattle.gf_take_run.specs.SeenDrawing.{AreThere, IsAbsent, IsNewer, since_drawing}
 use Rattle.gf_take_run.specs.TakenText.{DenotesDrawing, DenotesLines}
 use Rattle.gf_take_run.specs.TakeRun.{GoesBeyond, HasBase, HasBlockingLine, HasNewer, IsExhausted}
-use Rattle.gf_take_run.specs.TakeRun.{IsBehind, IsTakeOf, LooksOtherwise, ReadsBoth, ShowsMany}
+use Rattle.gf_take_run.specs.TakeRun.{IsBehind, LooksOtherwise, ReadsBoth, ShowsMany}
 use Rattle.gf_take_run.specs.TakeRun.{StaysWithin}
 use Rattle.gf_take_run.specs.TakeRun.{RefusesParts, RefusesTaking, TakesText, of_take, input, parts}
-use Rattle.gf_take_run.specs.TakeSteps.{AreWritten, IsBeyondMost, IsWrittenText, MakesFrom}
-use Rattle.gf_take_run.specs.TakeSteps.{RefusesBase, RefusesDrawing}
-use Rattle.gf_take_run.specs.TakeSteps.{RefusesMaking, RefusesPlan, RefusesSeen, TakesFrom}
+use Rattle.gf_take_run.specs.TakeSteps.{AreListed, AreWritten, IsBeyondMost, IsWrittenText}
+use Rattle.gf_take_run.specs.TakeSteps.{MakesBehind, MakesFrom, MakesOther, RefusesBase}
+use Rattle.gf_take_run.specs.TakeSteps.{RefusesBehind, RefusesDrawing, RefusesPlan, TakesFrom}
 use Rattle.gf_take_run.specs.TakeSteps.{TakesParts, TakesSo, told}
 
 -- ---- what was read
@@ -144,39 +138,40 @@ written_denotes new text w =
 
 -- ---- what is taken
 
--- what is told with equal numbers and histories is told of the site
-pub takes_so : (q : TakeRequest) (m : ℕ) (h k : List Op) (fig : List ℕ) (drawing : Drawn)
-    (seen : Clock) (t : TakenText) (base new : List Op) → m ≡ q.site → k ≡ h → AreThere seen k
-    → ((a x : Op) → ¬ (IsNewer q.site seen k a x)) → IsBase q.site seen k base
-    → TakesFrom m q.after base fig drawing new → IsWrittenText q.named k new t.text.items
-    → t.taken.made ≡ made_of new
-    → CountsObjects alters new t.taken.changed → CountsObjects hides new t.taken.hidden
-    → CountsObjects creates new t.taken.drawn → t.taken.since ≡ since_drawing q.site seen k
-    → AreThinOf base t.taken.thin.items → TakesSo q h fig drawing seen t
-takes_so q m h k fig drawing seen t base new mn kh there young is_base from text made changed
-    hidden drawn since thin =
-    subst (λ (l : List Op). TakesSo q l fig drawing seen t) kh (record {
-      new = new;
+-- what is made behind a base is taken, where all that the drawing knew is there, and no operation
+-- of the site is newer
+pub takes_so : (q : TakeRequest) (h : List Op) (fig : List ℕ) (drawing : Drawn) (seen : Clock)
+    (m : MadeBehind) (t : Answer Taken) → AreThere seen h
+    → ((a x : Op) → ¬ (IsNewer q.site seen h a x)) → MakesBehind q h fig drawing seen m
+    → IsWrittenText q.named h m.ops.items t.text.items → t.value.made ≡ made_of m.ops.items
+    → CountsObjects alters m.ops.items t.value.changed
+    → CountsObjects hides m.ops.items t.value.hidden
+    → CountsObjects creates m.ops.items t.value.drawn
+    → t.value.since ≡ since_drawing q.site seen h → t.value.thin.items ≡ m.thin.items
+    → TakesSo q h fig drawing seen t
+takes_so q h fig drawing seen m t there young behind text made changed hidden drawn since thin =
+    record {
+      new = m.ops.items;
       taken = record {
         there = there;
         young = young;
-        base = base;
-        is_base = is_base;
-        changes = from.changes;
-        takes = subst (λ i. Takes i base from.changes new drawing) mn from.takes;
-        may = from.may;
-        standing = from.standing;
-        same = from.same;
+        base = behind.base;
+        is_base = behind.is_base;
+        changes = behind.taken.changes;
+        takes = behind.taken.takes;
+        may = behind.taken.may;
+        standing = behind.taken.standing;
+        same = behind.taken.same;
       };
-      within = subst (λ i. StaysWithin i q.after base new) mn from.within;
+      within = behind.taken.within;
       text = text;
       made = made;
       changed = changed;
       hidden = hidden;
       drawn = drawn;
       since = since;
-      thin = thin;
-    })
+      thin = subst (AreThinOf behind.base) (sym thin) behind.thin;
+    }
 
 -- of no changes no operations are made
 pub makes_none : {m : ℕ} {base : List Op} {changes : List Change} {new : List Op}
@@ -195,10 +190,10 @@ few_within s (Some n) b new few = inl few
 
 -- what looks like the drawing takes it by nothing
 pub takes_nothing : (s : ℕ) (after : Option ℕ) (b : List Op) (fig : List ℕ) (d : Drawn)
-    (thin : List ObjectId) (made : MadeFrom) → AreAccepted b → IsValid b → LooksLike b d
-    → Reads fig d → made.ops.items ≡ [] → made.thin.items ≡ thin → AreThinOf b thin
-    → MakesFrom s after b fig d made
-takes_nothing s after b fig d thin made accepted valid like reads none is are = record {
+    (made : MadeFrom) → AreAccepted b → IsValid b → LooksLike b d → Reads fig d
+    → made.ops.items ≡ [] → made.site.ops ≡ b → AreListed b made.shown
+    → AreThinOf b made.thin.items → MakesFrom s after b fig d made
+takes_nothing s after b fig d made accepted valid like reads none is listed thin = record {
   taken = subst (TakesFrom s after b fig d) (sym none) (record {
     changes = [];
     takes = like_takes s b d accepted valid like
@@ -208,27 +203,28 @@ takes_nothing s after b fig d thin made accepted valid like reads none is are = 
     same = λ l. refl;
     within = none_within s after b;
   });
-  thin = subst (AreThinOf b) (sym is) are;
+  site = is ∙ (sym (append-nil b) ∙ ap (λ l. b ++ l) (sym none));
+  listed = subst (λ (h : List Op). AreListed h made.shown) (sym is) listed;
+  thin = thin;
 }
 
 -- what does not look like the drawing takes it by its changes
 pub takes_changes : (s : ℕ) (after : Option ℕ) (b : List Op) (fig : List ℕ) (d : Drawn)
-    (changes : List Change) (ops : List Op) (thin : List ObjectId) (made : MadeFrom)
-    → ¬ (LooksLike b d) → IfSome after (λ n. count_of b s ≤ n) → All (MayChange b fig) changes
-    → All (LeavesStanding b fig d) changes → Takes s b changes ops d → made.ops.items ≡ ops
-    → made.thin.items ≡ thin → AreThinOf b thin → MakesFrom s after b fig d made
-takes_changes s after b fig d changes ops thin made other few may standing takes is same are =
-    record {
-      taken = subst (TakesFrom s after b fig d) (sym is) (record {
-        changes = changes;
-        takes = takes;
-        may = may;
-        standing = standing;
-        same = λ l. absurd (other l);
-        within = few_within s after b ops few;
-      });
-      thin = subst (AreThinOf b) (sym same) are;
-    }
+    (made : MadeFrom) → ¬ (LooksLike b d) → IfSome after (λ n. count_of b s ≤ n)
+    → MakesOther s b fig d made → AreThinOf b made.thin.items → MakesFrom s after b fig d made
+takes_changes s after b fig d made other few o thin = record {
+  taken = record {
+    changes = o.changes;
+    takes = o.takes;
+    may = o.may;
+    standing = o.standing;
+    same = λ l. absurd (other l);
+    within = few_within s after b made.ops.items few;
+  };
+  site = o.site;
+  listed = o.listed;
+  thin = thin;
+}
 
 -- a site that has more operations than were asked for makes nothing
 pub behind_refuses : (s : ℕ) (after : Option ℕ) (b : List Op) (d : Drawn) (i : OpId)
@@ -236,38 +232,20 @@ pub behind_refuses : (s : ℕ) (after : Option ℕ) (b : List Op) (d : Drawn) (i
 behind_refuses s after b d i other f =
     record { otherwise = other; most = f.most; asked = f.asked; more = f.more; last = f.last }
 
--- why no changes are planned is why a base that looks otherwise makes nothing
+-- why nothing is planned is why a base that looks otherwise makes nothing
 pub plan_refuses : (s : ℕ) (after : Option ℕ) (b : List Op) (fig : List ℕ) (d : Drawn)
-    (e : DrawingError) → ¬ (LooksLike b d) → RefusesPlan fig d e → RefusesBase s after b fig d e
+    (e : DrawingError) → ¬ (LooksLike b d) → RefusesPlan s b fig d e
+    → RefusesBase s after b fig d e
 plan_refuses s after b fig d error.OutOfMemory other f = tt
 plan_refuses s after b fig d error.Differs other f = other
+plan_refuses s after b fig d error.Exhausted other f =
+    record { otherwise = other; changes = f.changes; refused = f.refused }
 plan_refuses s after b fig d (error.Figure broken) other f =
     (record { otherwise = other; breaks = f.0 }, f.1)
 plan_refuses s after b fig d error.TooManyFigures other f = absurd f
-plan_refuses s after b fig d error.Exhausted other f = absurd f
 plan_refuses s after b fig d (error.Absent i) other f = absurd f
 plan_refuses s after b fig d (error.Older i j) other f = absurd f
 plan_refuses s after b fig d (error.Behind i) other f = absurd f
-
--- why changes are not made is why a base that looks otherwise makes nothing
-pub making_refuses : (s : ℕ) (after : Option ℕ) (b : List Op) (fig : List ℕ) (d : Drawn)
-    (changes : List Change) (e : DrawingError) → ¬ (LooksLike b d) → RefusesMaking s b changes e
-    → RefusesBase s after b fig d e
-making_refuses s after b fig d changes error.OutOfMemory other f = tt
-making_refuses s after b fig d changes error.Differs other f = other
-making_refuses s after b fig d changes error.Exhausted other f =
-    record { otherwise = other; changes = changes; refused = f }
-making_refuses s after b fig d changes (error.Figure broken) other f = absurd f
-making_refuses s after b fig d changes error.TooManyFigures other f = absurd f
-making_refuses s after b fig d changes (error.Absent i) other f = absurd f
-making_refuses s after b fig d changes (error.Older i j) other f = absurd f
-making_refuses s after b fig d changes (error.Behind i) other f = absurd f
-
--- why changes are refused by a site
-pub refusal_of : (s : ℕ) (b : List Op) (changes : List Change) (d : Drawn) (why : AuthorFault)
-    → RefusesTake s b changes d (taking.Refused why) → why ≡ author.Exhausted
-    → HasRefusal s b changes author.Exhausted
-refusal_of s b changes d why f e = subst (HasRefusal s b changes) e f
 
 -- why the base makes nothing is why nothing is taken behind it
 base_refuses : (q : TakeRequest) (h base : List Op) (fig : List ℕ) (d : Drawn) (seen : Clock)
@@ -296,19 +274,18 @@ base_refuses q h base fig d seen e there young is = cases e
     cases (error.Absent i) f = absurd f
     cases (error.Older i j) f = absurd f
 
--- why a site makes nothing is why another of its number and history takes nothing
-pub base_refused : (q : TakeRequest) (m : ℕ) (h k base : List Op) (fig : List ℕ) (d : Drawn)
-    (seen : Clock) (e : DrawingError) → m ≡ q.site → k ≡ h → AreThere seen k
-    → ((a x : Op) → ¬ (IsNewer q.site seen k a x)) → IsBase q.site seen k base
-    → RefusesBase m q.after base fig d e → RefusesDrawing q h fig d seen e
-base_refused q m h k base fig d seen e mn kh there young is f =
-    subst (λ (l : List Op). RefusesDrawing q l fig d seen e) kh
-    (base_refuses q k base fig d seen e there young is
-    (subst (λ i. RefusesBase i q.after base fig d e) mn f))
+-- why nothing is made behind what the drawing knew is why nothing is taken
+pub behind_refused : (q : TakeRequest) (h : List Op) (fig : List ℕ) (d : Drawn) (seen : Clock)
+    (e : DrawingError) → AreThere seen h → ((a x : Op) → ¬ (IsNewer q.site seen h a x))
+    → RefusesBehind q h fig d seen e → RefusesDrawing q h fig d seen e
+behind_refused q h fig d seen e there young (inl is) =
+    subst (RefusesDrawing q h fig d seen) (sym is) tt
+behind_refused q h fig d seen e there young (inr f) =
+    base_refuses q h f.base fig d seen e there young f.is_base f.refused
 
 module _ (q : TakeRequest) (lines fig : List ℕ) (h : List Op) (read : DenotesLines q.site lines h)
     (drawing : Drawn) (seen : Clock) (drawn : DenotesDrawing fig drawing seen) where
-  pub parts_taken : (t : TakenText) → TakesSo q h fig drawing seen t → TakesParts q lines fig t
+  pub parts_taken : (t : Answer Taken) → TakesSo q h fig drawing seen t → TakesParts q lines fig t
   parts_taken t p = record {
     history = h;
     read = read;
@@ -344,8 +321,8 @@ module _ (q : TakeRequest) (lines fig : List ℕ) (h : List Op) (read : DenotesL
 -- ---- the whole text
 
 module _ (q : TakeRequest) (bytes lines fig : List ℕ) (parted : IsParted bytes lines fig) where
-  pub text_taken : (r : Result TakenText TakeRunError) → IfOk r (TakesParts q lines fig)
-      → IfOk r (λ t. TakesText q bytes t.text.items t.taken)
+  pub text_taken : (r : Result (Answer Taken) TakeRunError) → IfOk r (TakesParts q lines fig)
+      → IfOk r (λ t. TakesText q bytes t.text.items t.value)
   text_taken (Err e) p = tt
   text_taken (Ok t) p = record {
     new = p.takes.new;
@@ -375,7 +352,7 @@ module _ (q : TakeRequest) (bytes lines fig : List ℕ) (parted : IsParted bytes
     thin = p.takes.thin;
   }
 
-  pub text_refused : (r : Result TakenText TakeRunError) → IfErr r (RefusesParts q lines fig)
+  pub text_refused : (r : Result (Answer Taken) TakeRunError) → IfErr r (RefusesParts q lines fig)
       → IfErr r (RefusesTaking q bytes)
   text_refused (Ok t) p = tt
   text_refused (Err e) p =
@@ -383,34 +360,31 @@ module _ (q : TakeRequest) (bytes lines fig : List ℕ) (parted : IsParted bytes
 
 -- ---- the run
 
-pub run_refuses : {X : Type 0} (q : TakeRequest) (left : Option (List ℕ)) (items : List ℕ)
-    (r : Result X TakeRunError) → IfSome left (λ all. items ≡ all) → IfErr r (RefusesTaking q items)
-    → IfErr r (λ e. IfSome left (λ bytes. RefusesTaking q bytes e))
-run_refuses q (Some bytes) items (Err e) is f = subst (λ b. RefusesTaking q b e) is f
-run_refuses q None items (Err e) is f = tt
-run_refuses q left items (Ok x) is f = tt
+-- what may refuse any run may refuse a take
+of_any_run : (q : TakeRequest) (bytes : List ℕ) (e : TakeRunError) → IsSomeAnd (of_take e) IsOfRun
+    → RefusesTaking q bytes e
+of_any_run q bytes (refused.Run fault) r = input fault refl r
+of_any_run q bytes (refused.Waits i j) r = absurd r
+of_any_run q bytes refused.NoDrawing r = absurd r
+of_any_run q bytes (refused.Fig faults) r = absurd r
+of_any_run q bytes (refused.Figure broken) r = absurd r
+of_any_run q bytes refused.TooManyFigures r = absurd r
+of_any_run q bytes refused.Unnamed r = absurd r
+of_any_run q bytes (refused.Absent i) r = absurd r
+of_any_run q bytes (refused.Older i j) r = absurd r
+of_any_run q bytes (refused.Behind i) r = absurd r
+of_any_run q bytes refused.Exhausted r = absurd r
+of_any_run q bytes refused.Differs r = absurd r
 
--- an input that did not come refuses the run
-pub input_refuses : (q : TakeRequest) (left : Option (List ℕ)) (fault : StudioError)
-    → IsOfInput fault → IfSome left (λ bytes. RefusesTaking q bytes (refused.Run fault))
-input_refuses q None fault f = tt
-input_refuses q (Some bytes) fault f = input fault refl (of_run fault f)
-  where
-    of_run : (fault : StudioError) → IsOfInput fault → IsOfRun fault
-    of_run studio.OutOfMemory f = tt
-    of_run studio.ReadFailed f = tt
-    of_run studio.TooLong f = tt
-    of_run studio.WriteFailed f = tt
-    of_run (studio.Line m why) f = absurd f
-    of_run (studio.Dropped id fault) f = absurd f
-    of_run (studio.Fig x) f = absurd f
-    of_run (studio.Compile x) f = absurd f
-    of_run (studio.NoObject o) f = absurd f
-
--- what was written before the sink failed is a prefix of what is taken
-pub cut_take : (q : TakeRequest) (left old new : Option (List ℕ)) (text : List ℕ) (taken : Taken)
-    → IfSome left (λ bytes. TakesText q bytes text taken) → AppendsPrefix old new text
-    → IfSome left (λ bytes. WritesPrefix (IsTakeOf q bytes) old new)
-cut_take q None old new text taken t p = tt
-cut_take q (Some bytes) old new text taken t p =
-    record { text = text; is = (taken, t); written = p }
+-- Gives relates bytes to what they make, and refuses them as a take is refused
+module _ (Gives : Vec ℕ Global → Result (Answer Taken) TakeRunError → Type 0) (q : TakeRequest)
+    (given : (g : Vec ℕ Global) (e : TakeRunError) → Gives g (Err e)
+    → RefusesTaking q g.items e) where
+  pub run_refuses : (left : Option (List ℕ)) (r : Result Taken TakeRunError)
+      → IfErr r (λ e. Refuses Gives left e ⊎ IsSomeAnd (of_take e) IsOfRun)
+      → IfErr r (λ e. IfSome left (λ bytes. RefusesTaking q bytes e))
+  run_refuses left (Ok x) f = tt
+  run_refuses None (Err e) f = tt
+  run_refuses (Some bytes) (Err e) (inl f) =
+      subst (λ b. RefusesTaking q b e) f.bytes_are (given f.given e f.gives)
+  run_refuses (Some bytes) (Err e) (inr f) = of_any_run q bytes e f

@@ -1,6 +1,6 @@
 -- What a take makes of what was read. No public clause cites this module.
-use Rattle.std.specs.Prelude.{◌≡◌, ◌≢◌, ◌<◌, ℕ, Bool, List, [], ◌++◌, All, Contains, Ok, Option}
-use Rattle.std.specs.Prelude.{Some, ⊤}
+use Rattle.std.specs.Prelude.{◌≡◌, ◌≢◌, ◌⊎◌, ◌<◌, ◌≤◌, ℕ, Bool, List, [], ◌++◌, All, Contains}
+use Rattle.std.specs.Prelude.{None, Ok, Option, Some, length, ⊤}
 use Rattle.gf_ops.specs.declared.op.Op.{Op}
 use Rattle.gf_ops.specs.declared.op.OpId.{OpId}
 use Rattle.gf_ops.specs.declared.op.Clock.{Clock}
@@ -15,8 +15,17 @@ use Rattle.gf_edit.specs.MadeOperations.{made_of}
 use Rattle.gf_edit.specs.Making.{written_lines}
 use Rattle.gf_fig_read.specs.FaultLines.{BeginsOn}
 use Rattle.gf_site.specs.declared.faults.AuthorFault.TheVariants as author
+use Rattle.gf_take.specs.Bases.{IsBase}
 use Rattle.gf_take.specs.ShownDrawing.{LooksLike}
-use Rattle.gf_take.specs.Taking.{HasRefusal, Takes}
+use Rattle.gf_take.specs.Taking.{HasMade, HasRefusal, Takes}
+use Rattle.gf_shape.specs.declared.any_shape.AnyShape.{AnyShape}
+use Rattle.gf_versions.specs.declared.placed.Ranked.{Ranked}
+use Rattle.gf_versions.specs.declared.ranking.TheConstants.{MOST_VERSIONS}
+use Rattle.gf_versions.specs.Ranking.{AreRanked}
+use Rattle.gf_run.specs.declared.answering.Answer.{Answer}
+use Rattle.gf_take_run.specs.declared.behind.MadeBehind.{MadeBehind}
+use Rattle.gf_take_run.specs.declared.planning.Making.{Making}
+use Rattle.gf_take_run.specs.declared.taken.Taken.{Taken}
 use Rattle.gf_take_run.specs.declared.drawing_error.DrawingError.{DrawingError}
 use Rattle.gf_take_run.specs.declared.drawing_error.DrawingError.TheVariants as error
 use Rattle.gf_take_run.specs.declared.counting.Numbers.{Numbers}
@@ -28,7 +37,6 @@ use Rattle.gf_take_run.specs.declared.request.TakeRequest.{TakeRequest}
 use Rattle.gf_take_run.specs.ToldNumbers.{CountsObjects, alters, creates, hides}
 use Rattle.gf_take_run.specs.declared.take_run_error.TakeRunError.{TakeRunError}
 use Rattle.gf_take_run.specs.declared.take_run_error.TakeRunError.TheVariants as refused
-use Rattle.gf_take_run.specs.declared.taking.TakenText.{TakenText}
 use Rattle.gf_take_run.specs.SeenDrawing.{IsAbsent, IsNewer, since_drawing}
 use Rattle.gf_take_run.specs.TakenText.{DenotesDrawing, DenotesLines, TakesDrawing}
 use Rattle.gf_take_run.specs.TakeRun.{BreaksLimit, GoesBeyond, HasBase, HasNewer, IsExhausted}
@@ -59,11 +67,49 @@ pub record TakesFrom (s : ℕ) (after : Option ℕ) (b : List Op) (fig : List �
   pub same : LooksLike b drawing → new ≡ []
   pub within : StaysWithin s after b new
 
--- what is made of a drawing, and the polygons of the base b that xfig does not keep
+-- the ranked versions are the visible ones of h, no more than a drawing has
+pub record AreListed (h : List Op) (ranked : Ranked AnyShape) : Type 0 where
+  pub ranked : AreRanked h ranked.items.items
+  pub few : length ranked.items.items ≤ MOST_VERSIONS
+
+-- site s made the operations of m behind its base b
+pub record IsMaking (s : ℕ) (b : List Op) (m : Making) : Type 0 where
+  pub changes : List Change
+  pub made : HasMade s b changes m.site m.ops.items
+
+-- old becomes new, and shows the ranked versions; without any nothing was made
+abbrev pub AreListedBehind : Making → Making → Option (Ranked AnyShape) → Type 0
+AreListedBehind old new None = new ≡ old
+AreListedBehind old new (Some ranked) = AreListed new.site.ops ranked
+
+-- behind the base b, which site s has, what was made shows the drawing
+pub record MakesOther (s : ℕ) (b : List Op) (fig : List ℕ) (drawing : Drawn) (made : MadeFrom)
+    : Type 0 where
+  pub changes : List Change
+  pub takes : Takes s b changes made.ops.items drawing
+  pub may : All (MayChange b fig) changes
+  pub standing : All (LeavesStanding b fig drawing) changes
+  pub site : made.site.ops ≡ b ++ made.ops.items
+  pub listed : AreListed made.site.ops made.shown
+
+-- what is made of a drawing, what the site then shows, and the polygons of the base b that xfig
+-- does not keep
 pub record MakesFrom (s : ℕ) (after : Option ℕ) (b : List Op) (fig : List ℕ) (drawing : Drawn)
     (made : MadeFrom) : Type 0 where
   pub taken : TakesFrom s after b fig drawing made.ops.items
+  pub site : made.site.ops ≡ b ++ made.ops.items
+  pub listed : AreListed made.site.ops made.shown
   pub thin : AreThinOf b made.thin.items
+
+-- what is made of a drawing behind what it knew of h, and the named text of all operations, where
+-- it was asked for
+pub record MakesBehind (q : TakeRequest) (h : List Op) (fig : List ℕ) (drawing : Drawn)
+    (seen : Clock) (made : MadeBehind) : Type 0 where
+  pub base : List Op
+  pub is_base : IsBase q.site seen h base
+  pub taken : TakesFrom q.site q.after base fig drawing made.ops.items
+  pub thin : AreThinOf base made.thin.items
+  pub text : IsShownText q.named (h ++ made.ops.items) made.text.items
 
 -- the operations are counted
 pub record AreCounted (new : List Op) (numbers : Numbers) : Type 0 where
@@ -73,17 +119,17 @@ pub record AreCounted (new : List Op) (numbers : Numbers) : Type 0 where
 
 -- the site takes operations of the drawing behind what it knew of h, and they are written and told
 pub record TakesSo (q : TakeRequest) (h : List Op) (fig : List ℕ) (drawing : Drawn) (seen : Clock)
-    (t : TakenText) : Type 0 where
+    (t : Answer Taken) : Type 0 where
   pub new : List Op
   pub taken : TakesDrawing q.site h fig drawing seen new
   pub within : StaysWithin q.site q.after taken.base new
   pub text : IsWrittenText q.named h new t.text.items
-  pub made : t.taken.made ≡ made_of new
-  pub changed : CountsObjects alters new t.taken.changed
-  pub hidden : CountsObjects hides new t.taken.hidden
-  pub drawn : CountsObjects creates new t.taken.drawn
-  pub since : t.taken.since ≡ since_drawing q.site seen h
-  pub thin : AreThinOf taken.base t.taken.thin.items
+  pub made : t.value.made ≡ made_of new
+  pub changed : CountsObjects alters new t.value.changed
+  pub hidden : CountsObjects hides new t.value.hidden
+  pub drawn : CountsObjects creates new t.value.drawn
+  pub since : t.value.since ≡ since_drawing q.site seen h
+  pub thin : AreThinOf taken.base t.value.thin.items
 
 -- why site s makes nothing of the drawing behind its base
 abbrev pub RefusesBase : ℕ → Option ℕ → List Op → List ℕ → Drawn → DrawingError → Type 0
@@ -120,20 +166,34 @@ pub record IsBeyondMost (s : ℕ) (after : Option ℕ) (base : List Op) (i : OpI
   pub more : most < count_of base s
   pub last : i ≡ record { site = s; seq = count_of base s }
 
--- why no changes are planned, where the base does not look like the drawing
-abbrev pub RefusesPlan : List ℕ → Drawn → DrawingError → Type 0
-RefusesPlan fig drawing error.OutOfMemory = ⊤
-RefusesPlan fig drawing error.Differs = ⊤
-RefusesPlan fig drawing (error.Figure broken) =
-    BreaksLimit broken.object broken.fault drawing × BeginsOn fig broken.object broken.line
-RefusesPlan fig drawing other = ⊥
+-- site s makes no more operations behind some that it makes behind its base b
+pub record RunsOut (s : ℕ) (b : List Op) : Type 0 where
+  pub changes : List Change
+  pub refused : HasRefusal s b changes author.Exhausted
 
--- why site s does not make these changes behind its base, and show the drawing
-abbrev pub RefusesMaking : ℕ → List Op → List Change → DrawingError → Type 0
-RefusesMaking s b changes error.OutOfMemory = ⊤
-RefusesMaking s b changes error.Differs = ⊤
-RefusesMaking s b changes error.Exhausted = HasRefusal s b changes author.Exhausted
-RefusesMaking s b changes other = ⊥
+-- why site s makes nothing by which a base that looks otherwise shows the drawing
+abbrev pub RefusesPlan : ℕ → List Op → List ℕ → Drawn → DrawingError → Type 0
+RefusesPlan s b fig drawing error.OutOfMemory = ⊤
+RefusesPlan s b fig drawing error.Differs = ⊤
+RefusesPlan s b fig drawing error.Exhausted = RunsOut s b
+RefusesPlan s b fig drawing (error.Figure broken) =
+    BreaksLimit broken.object broken.fault drawing × BeginsOn fig broken.object broken.line
+RefusesPlan s b fig drawing error.TooManyFigures = ⊥
+RefusesPlan s b fig drawing (error.Absent i) = ⊥
+RefusesPlan s b fig drawing (error.Older i j) = ⊥
+RefusesPlan s b fig drawing (error.Behind i) = ⊥
+
+-- site q.site has a base of h behind which it makes nothing of the drawing, for this
+pub record RefusesBehindBase (q : TakeRequest) (h : List Op) (fig : List ℕ) (drawing : Drawn)
+    (seen : Clock) (e : DrawingError) : Type 0 where
+  pub base : List Op
+  pub is_base : IsBase q.site seen h base
+  pub refused : RefusesBase q.site q.after base fig drawing e
+
+-- why nothing is made of the drawing behind what it knew of h; want of memory may come with any
+abbrev pub RefusesBehind : TakeRequest → List Op → List ℕ → Drawn → Clock → DrawingError → Type 0
+RefusesBehind q h fig drawing seen e =
+    (e ≡ error.OutOfMemory) ⊎ RefusesBehindBase q h fig drawing seen e
 
 -- what is told of a fault of the drawing
 abbrev pub told : DrawingError → TakeRunError
@@ -167,7 +227,7 @@ pub record IsBeyond (s : ℕ) (past known : Clock) (i : OpId) : Type 0 where
   pub fewer : entry known i.site < i.seq
 
 -- the lines and the FIG text were read, and the site takes of them what is written and told
-pub record TakesParts (q : TakeRequest) (lines fig : List ℕ) (t : TakenText) : Type 0 where
+pub record TakesParts (q : TakeRequest) (lines fig : List ℕ) (t : Answer Taken) : Type 0 where
   pub history : List Op
   pub read : DenotesLines q.site lines history
   pub drawing : Drawn

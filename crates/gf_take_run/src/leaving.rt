@@ -3,7 +3,10 @@
 ghost use Rattle.std.specs.Prelude.{◌≡◌, ◌↔◌, ◌<◌, ℕ, All, IfOk, IfSome, IsTrue, List, length};
 ghost use Rattle.std.specs.Prelude.{true, false};
 ghost use Rattle.gf_shape.specs.ShapeLaws.{IsLawful};
+ghost use Rattle.std.specs.List.{AllZip};
+ghost use Rattle.gf_ops.specs.declared.op.Op.{Op};
 ghost use Rattle.gf_fig_named.specs.NamedFigures.{AreNamed};
+ghost use Rattle.gf_fig_named.specs.NamedText.{IsNameOf};
 ghost use Rattle.gf_versions.specs.Ranking.{AreRanked};
 ghost use Rattle.gf_take_run.specs.LeftObjects.{LeavesStanding, changed_look, is_layer};
 ghost use Rattle.gf_take_run.specs.LeavingSteps.{HasNoFigure, IsFigureAt, IsMeant};
@@ -11,32 +14,32 @@ ghost use Rattle.gf_take_run.specs.LeavingSteps.{HasNoFigure, IsFigureAt, IsMean
 use crate::reading::ReadDrawing;
 use crate::showing::{has_version, is_of};
 use gf_base::OutOfMemory;
-use gf_fig_named::{Name, names_of};
-use gf_ops::{Change, Ids, ObjectId, Value};
+use gf_fig_named::Name;
+use gf_ops::{Change, Ids, ObjectId, Op, Value};
 use gf_shape::AnyShape;
-use gf_site::Site;
 use gf_take::version_looks_like;
 use gf_versions::Placed;
 use std::alloc::Global;
 
-/// Whether changes give nothing but layers to an object each of whose versions has in the drawing a
-/// figure of its name that looks like it. The site shows these versions.
+/// Whether operations give nothing but layers to an object each of whose versions has in the
+/// drawing a figure of its name that looks like it. Each version has its name.
 pub(crate) fn leave_standing(
     alloc: Global,
-    base: &Site,
     shown: &[Placed<AnyShape>],
+    own: &[Name],
     drawn: &ReadDrawing,
-    changes: &[Change],
+    ops: &[Op],
 ) -> Result<bool, OutOfMemory>
-    requires ranked { AreRanked base.now.ops shown.now }
+    requires long { length own.now ≡ length shown.now }
     requires lawful { All (λ f. IsLawful f.shape) drawn.now.drawing.figures }
-    ensures { (fig : List ℕ) → AreNamed fig drawn.now.drawing drawn.now.names.items
+    ensures { (h : List Op) (fig : List ℕ) → AreRanked h shown.now
+        → AllZip (IsNameOf h shown.now) shown.now own.now
+        → AreNamed fig drawn.now.drawing drawn.now.names.items
         → IfOk result (λ left. left ≡ true
-        → All (LeavesStanding base.now.ops fig drawn.now.drawing) changes.now) }
+        → All (λ a. LeavesStanding h fig drawn.now.drawing a.change) ops.now) }
 {
-    let own = names_of(alloc, base.history(), shown)?;
-    for change in changes {
-        if !is_meant(alloc, shown, &own, drawn, change)? {
+    for op in ops {
+        if !is_meant(alloc, shown, own, drawn, &op.change)? {
             return Ok(false);
         }
     }

@@ -8,13 +8,13 @@
 //! - [`what_a_take_writes_joins_what_it_read`]: the law of what a take read and wrote.
 #![tactic(auto)]
 
+mod behind;
 mod broken_limit;
 mod counting;
 mod drawing_error;
 mod laws;
 mod leaving;
 mod making;
-mod naming;
 mod parting;
 mod planning;
 mod reading;

@@ -1,30 +1,32 @@
 //! What a site makes behind the base of a drawing.
 
-ghost use Rattle.std.specs.Prelude.{◌≡◌, ◌≤◌, ℕ, [], All, IfErr, IfNone, IfOk, IfSome, List};
-ghost use Rattle.gf_ops.specs.declared.op.Op.{Op};
-ghost use Rattle.gf_ops.specs.declared.change.Change.{Change};
+ghost use Rattle.std.specs.Prelude.{◌≡◌, ◌≤◌, IfErr, IfNone, IfOk, IfSome};
 ghost use Rattle.gf_ops.specs.OperationOrder.{count_of};
 ghost use Rattle.gf_fig_named.specs.NamedFigures.{AreNamed};
-ghost use Rattle.gf_fig_read.specs.Objects.{Drawn};
-ghost use Rattle.gf_take.specs.Taking.{RefusesTake, Takes};
 ghost use Rattle.gf_take_run.specs.TakenText.{DenotesDrawing};
-ghost use Rattle.gf_take_run.specs.TakeSteps.{IsBeyondMost, MakesFrom, RefusesBase, RefusesMaking};
+ghost use Rattle.gf_take_run.specs.TakeSteps.{AreListed, IsBeyondMost, MakesFrom, MakesOther};
+ghost use Rattle.gf_take_run.specs.TakeSteps.{RefusesBase, RefusesPlan};
 
 use crate::drawing_error::DrawingError;
-use crate::planning::changes_for;
+use crate::leaving::leave_standing;
+use crate::planning::{Making, make_planned};
 use crate::reading::ReadDrawing;
-use crate::showing::shown_by;
-use gf_figures::Drawing;
-use gf_ops::{Change, ObjectId, Op, OpId};
-use gf_shape::Outline;
-use gf_site::{AuthorFault, Site};
-use gf_take::{TakeError, looks_like, take};
+use crate::showing::{Shown, are_on_shown, shown_by};
+use gf_fig_named::names_of;
+use gf_ops::{ObjectId, Op, OpId};
+use gf_shape::AnyShape;
+use gf_site::Site;
+use gf_take::{looks_like, shows};
+use gf_versions::Ranked;
 use std::alloc::Global;
 
-/// The operations that were made, and the polygons of the base that xfig does not keep.
+/// A site with the operations that it made, what it shows with them, and the polygons of its base
+/// that xfig does not keep.
 #[derive(Drop)]
 pub(crate) struct MadeFrom {
+    pub(crate) site: Site,
     pub(crate) ops: Vec<Op>,
+    pub(crate) shown: Ranked<AnyShape>,
     pub(crate) thin: Vec<ObjectId>,
 }
 
@@ -32,53 +34,77 @@ pub(crate) struct MadeFrom {
 /// the base has at most so many operations of the site.
 pub(crate) fn make_from(
     alloc: Global,
-    base: &mut Site,
+    base: Site,
     fig: &[u8],
     drawn: &ReadDrawing,
     after: Option<u32>,
 ) -> Result<MadeFrom, DrawingError>
     requires drawn { DenotesDrawing fig.now drawn.now.drawing drawn.now.seen }
     requires named { AreNamed fig.now drawn.now.drawing drawn.now.names.items }
-    ensures ok { IfOk result
-        (MakesFrom base.old.number after base.old.ops fig.now drawn.now.drawing) }
+    ensures ok { IfOk result (MakesFrom base.number after base.ops fig.now drawn.now.drawing) }
     ensures refused { IfErr result
-        (RefusesBase base.old.number after base.old.ops fig.now drawn.now.drawing) }
+        (RefusesBase base.number after base.ops fig.now drawn.now.drawing) }
 {
     // The clauses of `history` say that the base is accepted and valid.
     let _ = base.history();
-    let shown = shown_by(alloc, base)?;
-    if looks_like(alloc, &shown.versions, &drawn.drawing)? {
+    let shown = shown_by(alloc, &base)?;
+    if looks_like(alloc, &shown.versions.items, &drawn.drawing)? {
         return Ok(MadeFrom {
+            site: base,
             ops: Vec::new(alloc),
+            shown: shown.versions,
             thin: shown.thin,
         });
     }
-    if let Some(last) = beyond(base, after) {
+    if let Some(last) = beyond(&base, after) {
         return Err(DrawingError::Behind(last));
     }
-    let changes = changes_for(alloc, base, fig, &shown.versions, drawn)?;
-    let ops = make_changes(alloc, base, changes, &drawn.drawing)?;
-    Ok(MadeFrom {
-        ops,
-        thin: shown.thin,
-    })
+    make_other(alloc, base, shown, fig, drawn)
 }
 
-/// The operations that a site makes of these changes, where it then shows the drawing.
-fn make_changes(
+/// What a site makes of a drawing that its base does not look like.
+fn make_other(
     alloc: Global,
-    base: &mut Site,
-    changes: Vec<Change>,
-    drawing: &Drawing<Outline>,
-) -> Result<Vec<Op>, DrawingError>
-    ensures ok { IfOk result (λ ops.
-        Takes base.old.number base.old.ops changes.items ops.items drawing.now) }
-    ensures refused { IfErr result (RefusesMaking base.old.number base.old.ops changes.items) }
+    base: Site,
+    shown: Shown,
+    fig: &[u8],
+    drawn: &ReadDrawing,
+) -> Result<MadeFrom, DrawingError>
+    requires listed { AreListed base.ops shown.versions }
+    requires drawn { DenotesDrawing fig.now drawn.now.drawing drawn.now.seen }
+    requires named { AreNamed fig.now drawn.now.drawing drawn.now.names.items }
+    ensures ok { IfOk result (MakesOther base.number base.ops fig.now drawn.now.drawing) }
+    ensures thin { IfOk result (λ made. made.thin ≡ shown.thin) }
+    ensures refused { IfErr result
+        (RefusesPlan base.number base.ops fig.now drawn.now.drawing) }
 {
-    match take(alloc, base, changes, drawing) {
-        Ok(ops) => Ok(ops),
-        Err(error) => Err(refusal(error)),
+    let names = names_of(alloc, base.history(), &shown.versions.items)?;
+    let mut making = Making {
+        site: base,
+        ops: Vec::new(alloc),
+    };
+    let last = make_planned(alloc, &mut making, fig, &shown.versions.items, drawn)?;
+    if !are_on_shown(alloc, fig, &making.ops, &shown.versions.items)? {
+        return Err(DrawingError::Differs);
     }
+    if !leave_standing(alloc, &shown.versions.items, &names, drawn, &making.ops)? {
+        return Err(DrawingError::Differs);
+    }
+    let shown_now = match last {
+        Some(ranked) => ranked,
+        None => shown.versions,
+    };
+    if !shows(alloc, &shown_now.items, &drawn.drawing)? {
+        return Err(DrawingError::Differs);
+    }
+    // The clauses of `history` say that what was made is accepted and valid.
+    let _ = making.site.history();
+    Ok(MadeFrom {
+        site: making.site,
+        ops: making.ops,
+        shown: shown_now,
+        thin: shown.thin,
+    })
 }
 
 /// The last operation of a site, where there are more than so many.
@@ -94,22 +120,5 @@ fn beyond(base: &Site, after: Option<u32>) -> Option<OpId>
         Some(OpId { site, seq })
     } else {
         None
-    }
-}
-
-/// Why nothing is taken, where this is why a site takes nothing.
-fn refusal(error: TakeError) -> DrawingError
-    ensures { (s : ℕ) (b : List Op) (changes : List Change) (d : Drawn)
-        → RefusesTake s b changes d error → RefusesMaking s b changes result }
-{
-    match error {
-        TakeError::Refused(fault) => match fault {
-            AuthorFault::Exhausted => DrawingError::Exhausted,
-            AuthorFault::Range | AuthorFault::NoObject => DrawingError::Differs,
-            AuthorFault::WrongKind | AuthorFault::BadAim => DrawingError::Differs,
-            AuthorFault::OutOfMemory => DrawingError::OutOfMemory,
-        },
-        TakeError::TooManyFigures | TakeError::Differs => DrawingError::Differs,
-        TakeError::OutOfMemory => DrawingError::OutOfMemory,
     }
 }

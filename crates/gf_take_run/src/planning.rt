@@ -1,22 +1,22 @@
-//! The changes by which a site comes to show a drawing.
+//! The changes by which a site comes to show a drawing, made behind its base.
 
-ghost use Rattle.std.specs.Prelude.{◌≡◌, ◌≤◌, All, IfErr, IfOk, IfSome, length};
+ghost use Rattle.std.specs.Prelude.{◌≡◌, ◌≤◌, ℕ, IfErr, IfOk, IfSome, List, length};
 ghost use Rattle.gf_fig_read.specs.FaultLines.{BeginsOn};
-ghost use Rattle.gf_fig_named.specs.NamedFigures.{AreNamed};
 ghost use Rattle.gf_fig_read.specs.FigGrammar.{Reads};
+ghost use Rattle.gf_fig_read.specs.Objects.{Drawn};
+ghost use Rattle.gf_ops.specs.declared.change.Change.{Change};
+ghost use Rattle.gf_ops.specs.declared.op.Op.{Op};
 ghost use Rattle.gf_versions.specs.Ranking.{AreRanked};
 ghost use Rattle.gf_versions.specs.declared.ranking.TheConstants.{MOST_VERSIONS};
-ghost use Rattle.gf_take_run.specs.LeftObjects.{LeavesStanding};
-ghost use Rattle.gf_take_run.specs.ChangedObjects.{MayChange};
+ghost use Rattle.gf_take.specs.Taking.{RefusesMaking};
 ghost use Rattle.gf_take_run.specs.TakeRun.{BreaksLimit};
 ghost use Rattle.gf_take_run.specs.TakenText.{DenotesDrawing};
-ghost use Rattle.gf_take_run.specs.TakeSteps.{RefusesPlan};
+ghost use Rattle.gf_take_run.specs.TakeSteps.{AreListed, AreListedBehind, IsMaking, RefusesPlan};
 
 use crate::BrokenLimit;
 use crate::drawing_error::DrawingError;
-use crate::leaving::leave_standing;
 use crate::reading::ReadDrawing;
-use crate::showing::are_on_shown;
+use crate::showing::listed;
 use gf_base::OutOfMemory;
 use gf_changes::{
     Matching, Target, alterations, arranged, first_beyond, has_change, matched, object_not_shown,
@@ -29,53 +29,165 @@ use gf_groups::{GroupFault, is_made};
 use gf_inspect::versions_with;
 use gf_listing::Versions;
 use gf_objects::{object_of, start_fault, start_of};
-use gf_ops::{Change, ObjectId};
+use gf_ops::{Change, ObjectId, Op};
 use gf_shape::{AnyShape, Outline};
 use gf_site::{AuthorFault, Site};
-use gf_versions::{MOST_VERSIONS, Placed, Version};
-use gf_visible::ranked_within;
+use gf_take::make_all;
+use gf_versions::{MOST_VERSIONS, Placed, Ranked, Version};
 use std::alloc::Global;
 
-/// What is proposed.
+/// A site at work behind its base, with the operations that it made there.
 #[derive(Drop)]
-enum Plan {
-    /// Changes in the order in which they are to be made.
-    Changes(Vec<Change>),
-    /// The figure of this index in file order would become what no operation can make.
-    Beyond(usize),
+pub(crate) struct Making {
+    pub(crate) site: Site,
+    pub(crate) ops: Vec<Op>,
 }
 
-/// The changes that a site, which shows these versions, is to make so that it shows the drawing.
-/// The caller checks that it then does.
-pub(crate) fn changes_for(
+/// Makes the changes by which a site, which shows these versions, is to come to show the drawing.
+/// Answers what it then shows, or None where nothing was made. The caller checks that this is the
+/// drawing.
+pub(crate) fn make_planned(
     alloc: Global,
-    base: &Site,
+    making: &mut Making,
     fig: &[u8],
     shown: &[Placed<AnyShape>],
     drawn: &ReadDrawing,
-) -> Result<Vec<Change>, DrawingError>
-    requires ranked { AreRanked base.now.ops shown.now }
+) -> Result<Option<Ranked<AnyShape>>, DrawingError>
+    requires ranked { AreRanked making.old.site.ops shown.now }
     requires drawn { DenotesDrawing fig.now drawn.now.drawing drawn.now.seen }
-    requires named { AreNamed fig.now drawn.now.drawing drawn.now.names.items }
-    ensures shown { IfOk result (λ changes. All (MayChange base.now.ops fig.now) changes.items) }
-    ensures standing { IfOk result (λ changes.
-        All (LeavesStanding base.now.ops fig.now drawn.now.drawing) changes.items) }
-    ensures refused { IfErr result (RefusesPlan fig.now drawn.now.drawing) }
+    ensures made { (s : ℕ) (b : List Op) → IsMaking s b making.old
+        → IfOk result (λ last. IsMaking s b making.new) }
+    ensures listed { IfOk result (AreListedBehind making.old making.new) }
+    ensures refused { (s : ℕ) (b : List Op) → IsMaking s b making.old
+        → IfErr result (RefusesPlan s b fig.now drawn.now.drawing) }
 {
-    match planned(alloc, base, shown, drawn)? {
-        Plan::Changes(changes) => {
-            if !are_on_shown(alloc, fig, &changes, shown)? {
-                return Err(DrawingError::Differs);
-            }
-            if !leave_standing(alloc, base, shown, drawn, &changes)? {
-                return Err(DrawingError::Differs);
-            }
-            Ok(changes)
-        }
-        Plan::Beyond(index) => match broken_at(alloc, fig, &drawn.drawing, index)? {
-            Some(broken) => Err(DrawingError::Figure(broken)),
-            None => Err(DrawingError::Differs),
-        },
+    let before = versions_of(alloc, making.site.history(), shown)?;
+    let restored = restorations(alloc, &making.site, &before, &drawn.targets)?;
+    if restored.is_empty() {
+        return make_matched(alloc, making, fig, &before, drawn);
+    }
+    let shown = make_more(alloc, making, restored)?;
+    let before = versions_of(alloc, making.site.history(), &shown.items)?;
+    let last = make_matched(alloc, making, fig, &before, drawn)?;
+    Ok(Some(last.unwrap_or(shown)))
+}
+
+/// Makes the changes by which these versions, which a site shows, become the figures of a drawing.
+/// Answers what the site then shows, or None where nothing was made.
+fn make_matched(
+    alloc: Global,
+    making: &mut Making,
+    fig: &[u8],
+    before: &[Version],
+    drawn: &ReadDrawing,
+) -> Result<Option<Ranked<AnyShape>>, DrawingError>
+    requires drawn { DenotesDrawing fig.now drawn.now.drawing drawn.now.seen }
+    ensures made { (s : ℕ) (b : List Op) → IsMaking s b making.old
+        → IfOk result (λ last. IsMaking s b making.new) }
+    ensures listed { IfOk result (AreListedBehind making.old making.new) }
+    ensures refused { (s : ℕ) (b : List Op) → IsMaking s b making.old
+        → IfErr result (RefusesPlan s b fig.now drawn.now.drawing) }
+{
+    let matching = matched(alloc, before, &drawn.targets, &drawn.seen)?;
+    if let Some(index) = first_beyond(&drawn.targets, &matching) {
+        return Err(beyond(alloc, fig, &drawn.drawing, index));
+    }
+    let altered = alterations(
+        alloc,
+        making.site.history(),
+        before,
+        &drawn.targets,
+        &matching,
+    )?;
+    if altered.is_empty() {
+        return make_arranged(alloc, making, before, before, &drawn.targets, &matching);
+    }
+    let shown = make_more(alloc, making, altered)?;
+    let after = versions_of(alloc, making.site.history(), &shown.items)?;
+    let last = make_arranged(alloc, making, before, &after, &drawn.targets, &matching)?;
+    Ok(Some(last.unwrap_or(shown)))
+}
+
+/// Makes the changes of layers and the creations of new figures, where the versions that were
+/// matched became others. Answers what the site then shows, or None where nothing was made.
+fn make_arranged(
+    alloc: Global,
+    making: &mut Making,
+    before: &[Version],
+    after: &[Version],
+    targets: &[Target],
+    matching: &Matching,
+) -> Result<Option<Ranked<AnyShape>>, DrawingError>
+    ensures made { (s : ℕ) (b : List Op) → IsMaking s b making.old
+        → IfOk result (λ last. IsMaking s b making.new) }
+    ensures listed { IfOk result (AreListedBehind making.old making.new) }
+    ensures refused { (s : ℕ) (b : List Op) (fig : List ℕ) (d : Drawn) → IsMaking s b making.old
+        → IfErr result (RefusesPlan s b fig d) }
+{
+    let changes = arranged(
+        alloc,
+        making.site.history(),
+        before,
+        after,
+        targets,
+        matching,
+    )?;
+    if changes.is_empty() {
+        return Ok(None);
+    }
+    let shown = make_more(alloc, making, changes)?;
+    Ok(Some(shown))
+}
+
+/// Makes changes, and answers what the site then shows.
+fn make_more(
+    alloc: Global,
+    making: &mut Making,
+    changes: Vec<Change>,
+) -> Result<Ranked<AnyShape>, DrawingError>
+    ensures made { (s : ℕ) (b : List Op) → IsMaking s b making.old
+        → IfOk result (λ shown. IsMaking s b making.new) }
+    ensures listed { IfOk result (AreListed making.new.site.ops) }
+    ensures refused { (s : ℕ) (b : List Op) (fig : List ℕ) (d : Drawn) → IsMaking s b making.old
+        → IfErr result (RefusesPlan s b fig d) }
+{
+    let mut more = match make_all(alloc, &mut making.site, changes) {
+        Ok(ops) => ops,
+        Err(fault) => return Err(refusal(fault)),
+    };
+    let Ok(()) = making.ops.append(&mut more) else {
+        return Err(DrawingError::OutOfMemory);
+    };
+    match listed(alloc, &making.site)? {
+        Some(shown) => Ok(shown),
+        None => Err(DrawingError::Differs),
+    }
+}
+
+/// Why nothing is taken, where a site refuses a change for this.
+fn refusal(fault: AuthorFault) -> DrawingError
+    ensures { (s : ℕ) (b : List Op) (changes : List Change) (fig : List ℕ) (d : Drawn)
+        → RefusesMaking s b changes fault → RefusesPlan s b fig d result }
+{
+    match fault {
+        AuthorFault::Exhausted => DrawingError::Exhausted,
+        AuthorFault::Range | AuthorFault::NoObject => DrawingError::Differs,
+        AuthorFault::WrongKind | AuthorFault::BadAim => DrawingError::Differs,
+        AuthorFault::OutOfMemory => DrawingError::OutOfMemory,
+    }
+}
+
+/// Why nothing is taken, where the figure of this index in file order would become what no
+/// operation can make.
+fn beyond(alloc: Global, fig: &[u8], drawing: &Drawing<Outline>, index: usize) -> DrawingError
+    requires reads { Reads fig.now drawing.now }
+    requires few { length drawing.now.figures ≤ MOST_VERSIONS }
+    ensures { (s : ℕ) (b : List Op) → RefusesPlan s b fig.now drawing.now result }
+{
+    match broken_at(alloc, fig, drawing, index) {
+        Ok(Some(broken)) => DrawingError::Figure(broken),
+        Ok(None) => DrawingError::Differs,
+        Err(OutOfMemory) => DrawingError::OutOfMemory,
     }
 }
 
@@ -108,32 +220,6 @@ fn broken_at(
         })),
         None => Ok(None),
     }
-}
-
-/// The changes that a site is to make so that it shows a drawing. It shows these versions. Where
-/// the site refuses one of the changes, or shows too much, those are the last ones.
-fn planned(
-    alloc: Global,
-    base: &Site,
-    shown: &[Placed<AnyShape>],
-    drawn: &ReadDrawing,
-) -> Result<Plan, OutOfMemory>
-    requires { AreRanked base.now.ops shown.now }
-{
-    let before = versions_of(alloc, base.history(), shown)?;
-    let restored = restorations(alloc, base, &before, &drawn.targets)?;
-    if restored.is_empty() {
-        return planned_from(alloc, base, &before, drawn, restored);
-    }
-    let mut site = base.copy(alloc)?;
-    if !author_all(alloc, &mut site, &restored)? {
-        return Ok(Plan::Changes(restored));
-    }
-    let Some(ranked) = ranked_within(alloc, &Versions::of(site.indexed()), MOST_VERSIONS)? else {
-        return Ok(Plan::Changes(restored));
-    };
-    let before = versions_of(alloc, site.history(), &ranked.items)?;
-    planned_from(alloc, &site, &before, drawn, restored)
 }
 
 /// The changes that show hidden versions again, each of which a figure names and looks like.
@@ -203,65 +289,5 @@ fn show_again(
             changes.push(change)?;
         }
     }
-    Ok(())
-}
-
-/// The changes that are to be made behind others, which the site has made. It shows these versions.
-fn planned_from(
-    alloc: Global,
-    base: &Site,
-    before: &[Version],
-    drawn: &ReadDrawing,
-    mut changes: Vec<Change>,
-) -> Result<Plan, OutOfMemory> {
-    let matching = matched(alloc, before, &drawn.targets, &drawn.seen)?;
-    if let Some(index) = first_beyond(&drawn.targets, &matching) {
-        return Ok(Plan::Beyond(index));
-    }
-    let mut altered = alterations(alloc, base.history(), before, &drawn.targets, &matching)?;
-    let mut site = base.copy(alloc)?;
-    if author_all(alloc, &mut site, &altered)? {
-        arrange(
-            alloc,
-            &site,
-            before,
-            &drawn.targets,
-            &matching,
-            &mut altered,
-        )?;
-    }
-    changes.append(&mut altered)?;
-    Ok(Plan::Changes(changes))
-}
-
-/// Has a site make these changes, and answers whether it refuses none.
-fn author_all(alloc: Global, site: &mut Site, changes: &[Change]) -> Result<bool, OutOfMemory> {
-    for change in changes {
-        match site.author(change.copy(alloc)?) {
-            Ok(_) => {}
-            Err(AuthorFault::OutOfMemory) => return Err(OutOfMemory),
-            Err(_) => return Ok(false),
-        }
-    }
-    Ok(true)
-}
-
-/// Adds the changes of layers and the creations of new figures, as far as the site that was changed
-/// shows no more versions than a drawing has.
-fn arrange(
-    alloc: Global,
-    changed: &Site,
-    before: &[Version],
-    targets: &[Target],
-    matching: &Matching,
-    changes: &mut Vec<Change>,
-) -> Result<(), OutOfMemory> {
-    let Some(ranked) = ranked_within(alloc, &Versions::of(changed.indexed()), MOST_VERSIONS)? else {
-        return Ok(());
-    };
-    let history = changed.history();
-    let versions = versions_of(alloc, history, &ranked.items)?;
-    let mut arranged = arranged(alloc, history, before, &versions, targets, matching)?;
-    changes.append(&mut arranged)?;
     Ok(())
 }

@@ -38,6 +38,7 @@ pub(crate) fn read_lines<T: Threads + Sync>(
     requires site { IsSite request.site }
     requires workers { (1 ≤ workers) × (workers ≤ 16) }
     ensures ok { IfOk result (λ x. DenotesLines request.site lines.items x.ops) }
+    ensures number { IfOk result (λ x. x.number ≡ request.site) }
     ensures refused { (fig : List ℕ) → IfErr result (RefusesParts request lines.items fig) }
     ensures between { IfErr result (λ e. IfSome (of_take e) IsBetween) }
 {

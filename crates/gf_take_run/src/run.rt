@@ -1,16 +1,15 @@
 //! The whole run over operation lines and a FIG text.
 
-ghost use Rattle.std.specs.Prelude.{◌≢◌, ◌≤◌, Some, IfSome, IfOk, IfErr};
+ghost use Rattle.std.specs.Prelude.{◌≤◌, IfSome, IfOk, IfErr};
 ghost use Rattle.gf_ops.specs.OperationOrder.{IsSite};
-ghost use Rattle.gf_run.specs.declared.studio_error.StudioError.{StudioError};
 ghost use Rattle.gf_run.specs.RunAnswers.{LeavesSinkBy, ReadsInputBy};
-ghost use Rattle.gf_take_run.specs.TakeRun.{IsTakeOf, RefusesTaking, TakesText, WritesTake};
+ghost use Rattle.gf_take_run.specs.TakeRun.{IsTakeOf, RefusesTaking, WritesTake};
 ghost use Rattle.gf_take_run.specs.TakeRun.{of_take};
 
-use crate::taking::{TakenText, take_text};
+use crate::taking::take_text;
 use crate::{TakeRequest, TakeRunError, Taken};
-use gf_run::{StudioError, input};
-use gf_streams::{Sink, SinkFault, Source, write_whole};
+use gf_run::run;
+use gf_streams::{Sink, Source};
 use std::alloc::Global;
 use std::thread::Threads;
 
@@ -45,33 +44,12 @@ pub fn take_run<T: Threads + Sync, R: Source, W: Sink>(
     ensures sink { LeavesSinkBy W.Sink (R.left source.old) (IsTakeOf request) sink.old sink.new
         of_take result }
 {
-    let taken = take_source(rt, alloc, source, request, workers)?;
-    match write_whole(sink, &taken.text) {
-        Ok(()) => Ok(taken.taken),
-        Err(SinkFault) => Err(TakeRunError::Run(StudioError::WriteFailed)),
-    }
-}
-
-/// What a site takes of the bytes of a source.
-fn take_source<T: Threads + Sync, R: Source>(
-    rt: &T,
-    alloc: Global,
-    source: &mut R,
-    request: TakeRequest,
-    workers: u8,
-) -> Result<TakenText, TakeRunError>
-    requires site { IsSite request.site }
-    requires workers { (1 ≤ workers) × (workers ≤ 16) }
-    ensures ok { IfOk result (λ t. IfSome (R.left source.old) (λ bytes.
-        TakesText request bytes t.text.items t.taken)) }
-    ensures source { ReadsInputBy R.Source source.old source.new of_take result }
-    ensures refused { IfErr result (λ e. IfSome (R.left source.old) (λ bytes.
-        RefusesTaking request bytes e)) }
-    ensures no_write { IfErr result (λ e. of_take e ≢ Some StudioError.WriteFailed) }
-{
-    let bytes = match input(alloc, source) {
-        Ok(bytes) => bytes,
-        Err(fault) => return Err(TakeRunError::Run(fault)),
-    };
-    take_text(rt, alloc, bytes, request, workers)
+    run(
+        alloc,
+        source,
+        sink,
+        |bytes|
+            requires { IsSite request.site × (1 ≤ workers) × (workers ≤ 16) }
+        { take_text(rt, alloc, bytes, request, workers) },
+    )
 }

@@ -1,7 +1,7 @@
 //! What a site shows, and what xfig does not keep of it.
 
 ghost use Rattle.std.specs.Prelude.{◌≡◌, ◌↔◌, ◌++◌, ℕ, All, Contains, IfErr, IfOk, IsTrue, List};
-ghost use Rattle.std.specs.Prelude.{Option, codes, true};
+ghost use Rattle.std.specs.Prelude.{IfNone, IfSome, Option, codes, true};
 ghost use Rattle.gf_ops.specs.declared.op.Op.{Op};
 ghost use Rattle.gf_versions.specs.Ranking.{AreRanked};
 ghost use Rattle.gf_fig_named.specs.ThinPolygons.{AreThinOf};
@@ -9,60 +9,68 @@ ghost use Rattle.gf_fig_read.specs.Objects.{Drawn};
 ghost use Rattle.gf_take_run.specs.ChangedObjects.{MayChange};
 ghost use Rattle.gf_take_run.specs.ChangedObjects.{NamesObject, name_begins};
 ghost use Rattle.gf_take_run.specs.ShownItems.{HasLine, IsOnItem, IsOnOne};
-ghost use Rattle.gf_take_run.specs.TakeSteps.{RefusesBase};
+ghost use Rattle.gf_versions.specs.declared.ranking.TheConstants.{MOST_VERSIONS};
+ghost use Rattle.gf_visible.specs.ShownVersions.{HasMoreVisible};
+ghost use Rattle.gf_take_run.specs.TakeSteps.{AreListed, RefusesBase};
 
 use crate::drawing_error::DrawingError;
 use gf_base::OutOfMemory;
 use gf_fig_named::thin_polygons;
 use gf_fig_tokens::cut_line;
 use gf_listing::Versions;
-use gf_ops::{Change, ObjectId, push_id};
+use gf_ops::{Change, ObjectId, Op, push_id};
 use gf_shape::AnyShape;
 use gf_site::Site;
-use gf_versions::{MOST_VERSIONS, Placed};
+use gf_versions::{MOST_VERSIONS, Placed, Ranked};
 use gf_visible::ranked_within;
 use std::alloc::Global;
 
 /// The visible versions of a site, topmost first.
 #[derive(Drop)]
 pub(crate) struct Shown {
-    pub(crate) versions: Vec<Placed<AnyShape>>,
+    pub(crate) versions: Ranked<AnyShape>,
     /// The objects of polygons that xfig does not keep, one for each such version.
     pub(crate) thin: Vec<ObjectId>,
 }
 
 /// What a site shows, if it is no more than a drawing has.
 pub(crate) fn shown_by(alloc: Global, base: &Site) -> Result<Shown, DrawingError>
-    ensures versions { IfOk result (λ shown. AreRanked base.now.ops shown.versions.items) }
+    ensures versions { IfOk result (λ shown. AreListed base.now.ops shown.versions) }
     ensures thin { IfOk result (λ shown. AreThinOf base.now.ops shown.thin.items) }
     ensures refused { (after : Option ℕ) (fig : List ℕ) (d : Drawn) → IfErr result
         (RefusesBase base.now.number after base.now.ops fig d) }
 {
-    match ranked_within(alloc, &Versions::of(base.indexed()), MOST_VERSIONS)? {
+    match listed(alloc, base)? {
         None => Err(DrawingError::TooManyFigures),
-        Some(ranked) => {
-            let thin = thin_polygons(alloc, &ranked.items)?;
-            Ok(Shown {
-                versions: ranked.items,
-                thin,
-            })
+        Some(versions) => {
+            let thin = thin_polygons(alloc, &versions.items)?;
+            Ok(Shown { versions, thin })
         }
     }
 }
 
-/// Whether each change creates an object, or is of one that has a version among these, or that the
-/// text names.
+/// The visible versions of a site, if they are no more than a drawing has.
+pub(crate) fn listed(alloc: Global, site: &Site) -> Result<Option<Ranked<AnyShape>>, OutOfMemory>
+    ensures some { IfOk result (λ found. IfSome found (AreListed site.now.ops)) }
+    ensures none { IfOk result (λ found. IfNone found
+        (HasMoreVisible site.now.ops MOST_VERSIONS)) }
+{
+    Ok(ranked_within(alloc, &Versions::of(site.indexed()), MOST_VERSIONS)?)
+}
+
+/// Whether each operation creates an object, or is on one that has a version among these, or that
+/// the text names.
 pub(crate) fn are_on_shown(
     alloc: Global,
     fig: &[u8],
-    changes: &[Change],
+    ops: &[Op],
     shown: &[Placed<AnyShape>],
 ) -> Result<bool, OutOfMemory>
     ensures { (h : List Op) → AreRanked h shown.now → IfOk result (λ on. on ≡ true
-        → All (MayChange h fig.now) changes.now) }
+        → All (λ a. MayChange h fig.now a.change) ops.now) }
 {
-    for change in changes {
-        if !is_on_shown(alloc, fig, change, shown)? {
+    for op in ops {
+        if !is_on_shown(alloc, fig, &op.change, shown)? {
             return Ok(false);
         }
     }

@@ -2,13 +2,14 @@
 
 ghost use Rattle.std.specs.Prelude.{◌≡◌};
 ghost use Rattle.gf_run.specs.declared.studio_error.StudioError.TheVariants as studio;
+ghost use Rattle.gf_take_run.specs.TakeRun.{of_take};
 ghost use Rattle.gf_take_run.specs.declared.take_run_error.TakeRunError.TheVariants as refused;
 
 use crate::BrokenLimit;
 use gf_base::OutOfMemory;
 use gf_fig_faults::DrawingFaults;
 use gf_ops::OpId;
-use gf_run::StudioError;
+use gf_run::{RunError, StudioError};
 use thiserror::Error;
 
 /// Why nothing is taken.
@@ -66,5 +67,13 @@ impl From<OutOfMemory> for TakeRunError {
 
     fn from(_: OutOfMemory) -> TakeRunError {
         TakeRunError::Run(StudioError::OutOfMemory)
+    }
+}
+
+impl RunError for TakeRunError {
+    ghost shared = { of_take };
+
+    fn of_run(fault: StudioError) -> TakeRunError {
+        TakeRunError::Run(fault)
     }
 }

@@ -1,7 +1,6 @@
 //! From the bytes of a text to the lines of what is taken.
 
-ghost use Rattle.std.specs.Prelude.{◌≡◌, ◌≤◌, ◌++◌, Contains, IfErr, IfOk, IfSome};
-ghost use Rattle.gf_ops.specs.Accepted.{AreAccepted};
+ghost use Rattle.std.specs.Prelude.{◌≡◌, ◌≤◌, ◌++◌, Bool, Contains, IfErr, IfOk, IfSome, List};
 ghost use Rattle.gf_fig_named.specs.NamedFigures.{AreNamed};
 ghost use Rattle.gf_ops.specs.Limits.{IsInRange};
 ghost use Rattle.gf_ops.specs.OperationOrder.{IsSite};
@@ -10,32 +9,24 @@ ghost use Rattle.gf_edit.specs.MadeOperations.{made_of, made_until};
 ghost use Rattle.gf_ops.specs.declared.op.Op.{Op};
 ghost use Rattle.gf_take_run.specs.TakenText.{DenotesDrawing};
 ghost use Rattle.gf_take_run.specs.TakeRun.{RefusesParts, RefusesTaking, TakesText, of_take};
+ghost use Rattle.gf_take_run.specs.ShownText.{IsShownText};
 ghost use Rattle.gf_take_run.specs.TakeSteps.{AreWritten, IsWrittenText, RefusesDrawing};
-ghost use Rattle.gf_take_run.specs.TakeSteps.{TakesParts};
-ghost use Rattle.gf_take_run.specs.TakeSteps.{TakesSo};
+ghost use Rattle.gf_take_run.specs.TakeSteps.{TakesParts, TakesSo};
 
+use crate::behind::make_behind;
 use crate::counting::numbers_of;
 use crate::drawing_error::DrawingError;
-use crate::making::make_from;
-use crate::naming::text_with;
 use crate::parting::{Parts, part};
 use crate::reading::{ReadDrawing, read_drawing, read_lines};
 use crate::seeing::{check_age, check_known, made_since};
 use crate::{TakeRequest, TakeRunError, Taken};
 use gf_base::OutOfMemory;
 use gf_edit::{Made, push_line};
-use gf_ops::{History, Op, OpId};
+use gf_ops::{Op, OpId};
+use gf_run::Answer;
 use gf_site::Site;
-use gf_take::base_site;
 use std::alloc::Global;
 use std::thread::Threads;
-
-/// The lines of the operations that were made, and what is told of them.
-#[derive(Drop)]
-pub(crate) struct TakenText {
-    pub(crate) text: Vec<u8>,
-    pub(crate) taken: Taken,
-}
 
 /// What a site takes of these bytes: operation lines, and a FIG text behind them.
 pub(crate) fn take_text<T: Threads + Sync>(
@@ -44,10 +35,10 @@ pub(crate) fn take_text<T: Threads + Sync>(
     bytes: Vec<u8>,
     request: TakeRequest,
     workers: u8,
-) -> Result<TakenText, TakeRunError>
+) -> Result<Answer<Taken>, TakeRunError>
     requires site { IsSite request.site }
     requires workers { (1 ≤ workers) × (workers ≤ 16) }
-    ensures ok { IfOk result (λ t. TakesText request bytes.items t.text.items t.taken) }
+    ensures ok { IfOk result (λ t. TakesText request bytes.items t.text.items t.value) }
     ensures refused { IfErr result (RefusesTaking request bytes.items) }
     ensures between { IfErr result (λ e. IfSome (of_take e) IsBetween) }
 {
@@ -65,7 +56,7 @@ fn take_parts<T: Threads + Sync>(
     parts: Parts,
     request: TakeRequest,
     workers: u8,
-) -> Result<TakenText, TakeRunError>
+) -> Result<Answer<Taken>, TakeRunError>
     requires site { IsSite request.site }
     requires workers { (1 ≤ workers) × (workers ≤ 16) }
     ensures ok { IfOk result (TakesParts request parts.lines.items parts.fig.items) }
@@ -74,37 +65,37 @@ fn take_parts<T: Threads + Sync>(
 {
     let taker = read_lines(rt, alloc, parts.lines, request, workers)?;
     let drawn = read_drawing(alloc, &parts.fig)?;
-    Ok(take_drawing(alloc, &taker, &parts.fig, &drawn, request)?)
+    Ok(take_drawing(alloc, taker, &parts.fig, &drawn, request)?)
 }
 
 /// What a site takes of a drawing.
 fn take_drawing(
     alloc: Global,
-    taker: &Site,
+    taker: Site,
     fig: &[u8],
     drawn: &ReadDrawing,
     request: TakeRequest,
-) -> Result<TakenText, DrawingError>
+) -> Result<Answer<Taken>, DrawingError>
     requires site { IsSite request.site }
+    requires number { taker.number ≡ request.site }
     requires drawn { DenotesDrawing fig.now drawn.now.drawing drawn.now.seen }
     requires named { AreNamed fig.now drawn.now.drawing drawn.now.names.items }
-    ensures ok { IfOk result (TakesSo request taker.now.ops fig.now drawn.now.drawing
+    ensures ok { IfOk result (TakesSo request taker.ops fig.now drawn.now.drawing
         drawn.now.seen) }
-    ensures refused { IfErr result (RefusesDrawing request taker.now.ops fig.now
+    ensures refused { IfErr result (RefusesDrawing request taker.ops fig.now
         drawn.now.drawing drawn.now.seen) }
 {
-    let (history, site) = (taker.history(), request.site);
-    check_known(history, site, &drawn.seen)?;
-    check_age(history, site, &drawn.seen)?;
-    let mut base = base_site(alloc, site, history, &drawn.seen)?;
-    let made = make_from(alloc, &mut base, fig, drawn, request.after)?;
+    check_known(taker.history(), request.site, &drawn.seen)?;
+    check_age(taker.history(), request.site, &drawn.seen)?;
+    let since = made_since(taker.history(), request.site, &drawn.seen);
+    let made = make_behind(alloc, taker, fig, drawn, request)?;
     let numbers = numbers_of(alloc, &made.ops)?;
-    let text = text_of(alloc, history, &made.ops, request.named)?;
-    Ok(TakenText {
+    let text = text_of(alloc, &made.ops, &made.text)?;
+    Ok(Answer {
         text,
-        taken: Taken {
+        value: Taken {
             made: made_of(&made.ops),
-            since: made_since(history, site, &drawn.seen),
+            since,
             thin: made.thin,
             changed: numbers.changed,
             hidden: numbers.hidden,
@@ -134,23 +125,14 @@ fn until(made: Option<Made>, last: OpId) -> Made
     }
 }
 
-/// The lines of operations, and behind them the named text of a history with them, where it is
-/// asked for.
-fn text_of(
-    alloc: Global,
-    history: &History,
-    ops: &[Op],
-    named: bool,
-) -> Result<Vec<u8>, OutOfMemory>
-    requires in_range { (a : Op) → Contains ops.now a → IsInRange a }
-    requires accepted { AreAccepted (history.now.ops ++ ops.now) }
-    ensures { IfOk result (λ text. IsWrittenText named history.now.ops ops.now text.items) }
+/// The lines of operations, and a text behind them.
+fn text_of(alloc: Global, ops: &[Op], shown: &[u8]) -> Result<Vec<u8>, OutOfMemory>
+    requires { (a : Op) → Contains ops.now a → IsInRange a }
+    ensures { (named : Bool) (h : List Op) → IsShownText named (h ++ ops.now) shown.now
+        → IfOk result (λ text. IsWrittenText named h ops.now text.items) }
 {
     let mut text = lines_of(alloc, ops)?;
-    if named {
-        let shown = text_with(alloc, history, ops)?;
-        text.extend_from_slice(&shown)?;
-    }
+    text.extend_from_slice(shown)?;
     Ok(text)
 }
 

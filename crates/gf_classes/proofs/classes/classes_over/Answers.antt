@@ -25,7 +25,7 @@ returns c =
     subst (AreClassesOf c.args.history.now.ops c.args.positions.now) (sym c.new.ensures)
     (classes_made c.args.history.now.ops c.args.positions.now c.args.direct
     c.slots_of.new.joints c.in_ok-slots.slots.items c.in_ok-members.members.items
-    c.in_ok-rows.rows.items c.recall_valid.ensures c.requires c.in_ok-slots.ensures
+    c.in_ok-rows.rows.items c.ops.ensures.valid c.requires c.in_ok-slots.ensures
     (subst (λ z. AreAllRows z c.slots_of.new.joints.owns c.in_ok-rows.rows.items)
     c.into_rows.ensures
     (subst (λ z. AreAllRows c.into_rows.result.items z c.in_ok-rows.rows.items) c.owns.ensures.owns

@@ -1,0 +1,125 @@
+//! What a site makes behind the base of a drawing, and the named text of all operations with it.
+
+ghost use Rattle.std.specs.Prelude.{◌≡◌, ◌++◌, Contains, IfErr, IfOk};
+ghost use Rattle.gf_fig_named.specs.NamedFigures.{AreNamed};
+ghost use Rattle.gf_ops.specs.Accepted.{AreAccepted};
+ghost use Rattle.gf_ops.specs.Limits.{IsInRange};
+ghost use Rattle.gf_ops.specs.OperationOrder.{IsSite};
+ghost use Rattle.gf_ops.specs.declared.op.Op.{Op};
+ghost use Rattle.gf_take_run.specs.ShownText.{IsShownText, IsTextOf};
+ghost use Rattle.gf_take_run.specs.TakenText.{DenotesDrawing};
+ghost use Rattle.gf_take_run.specs.TakeSteps.{AreListed, MakesBehind, RefusesBehind};
+
+use crate::TakeRequest;
+use crate::drawing_error::DrawingError;
+use crate::making::{MadeFrom, make_from};
+use crate::reading::ReadDrawing;
+use crate::showing::listed;
+use gf_base::OutOfMemory;
+use gf_drawing::CompileFault;
+use gf_fig_named::named_bytes;
+use gf_ops::{History, ObjectId, Op};
+use gf_shape::AnyShape;
+use gf_site::Site;
+use gf_take::{base_site, is_whole_base};
+use gf_versions::Ranked;
+use std::alloc::Global;
+
+/// The operations that a site made behind its base, the polygons of this that xfig does not keep,
+/// and the named text of all operations, where it was asked for.
+#[derive(Drop)]
+pub(crate) struct MadeBehind {
+    pub(crate) ops: Vec<Op>,
+    pub(crate) thin: Vec<ObjectId>,
+    pub(crate) text: Vec<u8>,
+}
+
+/// What a site makes of a drawing behind what this knew. Where that is all that the site has, the
+/// site itself is the base, and what it shows at the end is what its text shows.
+pub(crate) fn make_behind(
+    alloc: Global,
+    taker: Site,
+    fig: &[u8],
+    drawn: &ReadDrawing,
+    request: TakeRequest,
+) -> Result<MadeBehind, DrawingError>
+    requires site { IsSite request.site }
+    requires number { taker.number ≡ request.site }
+    requires drawn { DenotesDrawing fig.now drawn.now.drawing drawn.now.seen }
+    requires named { AreNamed fig.now drawn.now.drawing drawn.now.names.items }
+    ensures ok { IfOk result
+        (MakesBehind request taker.ops fig.now drawn.now.drawing drawn.now.seen) }
+    ensures refused { IfErr result
+        (RefusesBehind request taker.ops fig.now drawn.now.drawing drawn.now.seen) }
+{
+    if is_whole_base(request.site, taker.history(), &drawn.seen) {
+        let made = make_from(alloc, taker, fig, drawn, request.after)?;
+        return Ok(shown_whole(alloc, made, request.named)?);
+    }
+    let base = base_site(alloc, request.site, taker.history(), &drawn.seen)?;
+    let made = make_from(alloc, base, fig, drawn, request.after)?;
+    let text = text_with(alloc, taker, &made.ops, request.named)?;
+    Ok(MadeBehind {
+        ops: made.ops,
+        thin: made.thin,
+        text,
+    })
+}
+
+/// What a site made behind all that it has, with the named text, where it is asked for.
+fn shown_whole(alloc: Global, made: MadeFrom, named: bool) -> Result<MadeBehind, OutOfMemory>
+    requires { AreListed made.site.ops made.shown }
+    ensures ops { IfOk result (λ whole. whole.ops ≡ made.ops) }
+    ensures thin { IfOk result (λ whole. whole.thin ≡ made.thin) }
+    ensures text { IfOk result (λ whole. IsShownText named made.site.ops whole.text.items) }
+{
+    let mut text = Vec::new(alloc);
+    if named {
+        text = named_text(alloc, made.site.history(), made.shown)?;
+    }
+    Ok(MadeBehind {
+        ops: made.ops,
+        thin: made.thin,
+        text,
+    })
+}
+
+/// The named text of a site with these operations behind its own, where it is asked for.
+fn text_with(
+    alloc: Global,
+    mut taker: Site,
+    new: &[Op],
+    named: bool,
+) -> Result<Vec<u8>, OutOfMemory>
+    requires in_range { (a : Op) → Contains new.now a → IsInRange a }
+    requires accepted { AreAccepted (taker.ops ++ new.now) }
+    ensures { IfOk result (λ text. IsShownText named (taker.ops ++ new.now) text.items) }
+{
+    if !named {
+        return Ok(Vec::new(alloc));
+    }
+    for op in new {
+        taker.add(op.copy(alloc)?)?;
+    }
+    match listed(alloc, &taker)? {
+        Some(ranked) => named_text(alloc, taker.history(), ranked),
+        None => Ok(Vec::new(alloc)),
+    }
+}
+
+/// The named text of a history with these visible versions; empty where it has none.
+fn named_text(
+    alloc: Global,
+    history: &History,
+    ranked: Ranked<AnyShape>,
+) -> Result<Vec<u8>, OutOfMemory>
+    requires { AreListed history.now.ops ranked }
+    ensures { IfOk result (λ text. IsTextOf history.now.ops text.items) }
+{
+    match named_bytes(alloc, history, ranked) {
+        Ok(text) => Ok(text),
+        Err(CompileFault::TooManyColours) => Ok(Vec::new(alloc)),
+        Err(CompileFault::TooManyVersions) => unreachable!(),
+        Err(CompileFault::OutOfMemory) => Err(OutOfMemory),
+    }
+}
