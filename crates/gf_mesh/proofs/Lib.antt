@@ -1,6 +1,4 @@
-pub mod MeshLemmas
-pub mod PlacedLemmas
-pub mod PairLemmas
-pub mod ExchangeLemmas
-pub mod LinkedLemmas
+pub mod MeetingLemmas
+pub mod PlaceLemmas
 pub mod RowLemmas
+pub mod SettlingLemmas

@@ -1,3 +1,3 @@
 pub mod Linked
-pub mod Mesh
+pub mod Meeting
 pub mod Settled

@@ -1,66 +1,46 @@
 -- Sites of which any two are joined by two links, one each way (this project's choice).
-use Rattle.std.specs.Prelude.{◌≡◌, ◌≢◌, ◌==◌, ℕ, ◌<◌, List, map, length}
-use Rattle.std.specs.Prelude.{sum_by, Contains, Some, IsTrue, slice_get}
-use Rattle.std.specs.List.{count_by}
+use Rattle.std.specs.Prelude.{◌≡◌, ℕ, zero, suc, ◌+◌, ◌*◌, ◌<◌, ◌≤◌, List, map, length}
+use Rattle.std.specs.Prelude.{IsTrue, Some, slice_get, Contains}
 use Rattle.std.specs.Global.{Vec}
 use Rattle.atomic_table.specs.Seated.{TableId}
 use Rattle.gf_link.specs.Ends.{is_ended}
 use Rattle.gf_worker.specs.declared.peer.Peer.{Peer}
-use Rattle.gf_worker.specs.Peers.{ArePlaced, IsFresh, Seat, seat_of}
-
--- what contracts see of the links between some sites: their names, and the seats of each site
-pub record MeshTable : Type 0 where
-  pub links : List TableId
-  pub seats : List (List Seat)
+use Rattle.gf_worker.specs.Peers.{Seat, seat_of}
 
 -- the peers of each site
 abbrev pub rows_of : List (Vec Peer) → List (List Peer)
 rows_of rows = map (λ v. v.items) rows
 
--- the seats of each site
-abbrev pub seats_of : List (List Peer) → List (List Seat)
-seats_of rows = map (map seat_of) rows
+-- P holds of each peer of each site
+abbrev pub EachPeer : (Peer → Type 0) → List (List Peer) → Type 0
+EachPeer P rows = (xs : List Peer) → Contains rows xs → (p : Peer) → Contains xs p → P p
 
--- each of the peers x and y sends on the link from which the other takes
-pub record AreEnds (x y : Peer) : Type 0 where
-  pub there : (x.out ≡ y.into) × (x.send.link ≡ y.take.link)
-  pub back : (y.out ≡ x.into) × (y.send.link ≡ x.take.link)
+-- how many links n sites have
+abbrev pub links_of : ℕ → ℕ
+links_of zero = 0
+links_of (suc n) = links_of n + 2 * n
 
--- a peer in xs and one in ys are the ends of two links
-pub record Meet (xs ys : List Peer) : Type 0 where
-  pub one : Peer
-  pub two : Peer
-  pub in_one : Contains xs one
-  pub in_two : Contains ys two
-  pub ends : AreEnds one two
+-- s is the seat of the site i for the site j. The links of a site with all earlier ones stand
+-- together, in the order of these. For each of them, first comes the link to the later site
+pub record IsSeat (i j : ℕ) (s : Seat) : Type 0 where
+  pub later : i < j → (s.out ≡ links_of j + 2 * i) × (s.into ≡ s.out + 1)
+  pub earlier : j < i → (s.into ≡ links_of i + 2 * j) × (s.out ≡ s.into + 1)
 
--- the peer x of the row i and a peer of another row are the ends of two links
-pub record IsLinkedToOne (rows : List (List Peer)) (i : ℕ) (x : Peer) : Type 0 where
-  pub index : ℕ
-  pub row : List Peer
-  pub other : Peer
-  pub apart : index ≢ i
-  pub at : slice_get rows index ≡ Some row
-  pub contained : Contains row other
-  pub ends : AreEnds x other
+-- s is the seat of the site i for its peer k: the peers are all other sites, in their order
+pub record IsSeatAt (links : List TableId) (i k : ℕ) (s : Seat) : Type 0 where
+  pub earlier : k < i → IsSeat i k s
+  pub later : i ≤ k → IsSeat i (suc k) s
+  pub to : slice_get links s.out ≡ Some s.to
+  pub from : slice_get links s.into ≡ Some s.from
 
--- just one of all peers has the number k
-abbrev pub HasOne : (Peer → ℕ) → List (List Peer) → ℕ → Type 0
-HasOne number rows k = sum_by (count_by (λ p. number p == k)) rows ≡ 1
-
--- any two sites meet, and no peer is without its other end. Nothing was sent or taken. At each
--- index of the table stands one peer's link out, and one peer's link in
+-- each site has every other one as a peer, and the table has no further links
 pub record AreLinked (links : List TableId) (rows : List (List Peer)) : Type 0 where
-  pub each : (i j : ℕ) (xs ys : List Peer) → i ≢ j → slice_get rows i ≡ Some xs
-      → slice_get rows j ≡ Some ys → Meet xs ys
-  pub only : (i : ℕ) (xs : List Peer) (x : Peer) → slice_get rows i ≡ Some xs
-      → Contains xs x → IsLinkedToOne rows i x
-  pub placed : (xs : List Peer) → Contains rows xs → ArePlaced links xs
-  pub fresh : (xs : List Peer) → Contains rows xs → (p : Peer) → Contains xs p → IsFresh p
-  pub outs : (k : ℕ) → k < length links → HasOne (λ p. p.out) rows k
-  pub intos : (k : ℕ) → k < length links → HasOne (λ p. p.into) rows k
+  pub count : length links ≡ links_of (length rows)
+  pub long : (i : ℕ) (xs : List Peer) → slice_get rows i ≡ Some xs
+      → length xs + 1 ≡ length rows
+  pub each : (i k : ℕ) (xs : List Peer) (p : Peer) → slice_get rows i ≡ Some xs
+      → slice_get xs k ≡ Some p → IsSeatAt links i k (seat_of p)
 
 -- an End or a Stop was taken from each peer
 abbrev pub HaveEnded : List (List Peer) → Type 0
-HaveEnded rows = (xs : List Peer) → Contains rows xs → (p : Peer) → Contains xs p
-    → IsTrue (is_ended p.take.taken)
+HaveEnded rows = EachPeer (λ p. IsTrue (is_ended p.take.taken)) rows

@@ -1,9 +1,9 @@
 //! The end of all links, once no worker runs any more.
 
-ghost use Rattle.std.specs.Prelude.{◌≡◌, [], length, IsTrue};
+ghost use Rattle.std.specs.Prelude.{◌≡◌, IsTrue};
 ghost use Rattle.gf_link.specs.Ends.{is_ended};
-ghost use Rattle.gf_mesh.specs.Linked.{HaveEnded, rows_of, seats_of};
-ghost use Rattle.gf_mesh.specs.Mesh.{IsMesh, IsLinked, HaveExchanged, Exchanged};
+ghost use Rattle.gf_mesh.specs.Linked.{AreLinked, HaveEnded, rows_of};
+ghost use Rattle.gf_mesh.specs.Meeting.{AreEnds, HaveExchanged};
 ghost use Rattle.gf_mesh.specs.Settled.{AreAllTaken};
 
 use crate::Mesh;
@@ -15,43 +15,31 @@ impl Mesh {
     /// Settles all links, with the peers that the sites have by then. Each site took from every
     /// other all that it sent.
     pub fn settle<R: Wait>(self, rt: &R, mut peers: Vec<Vec<Peer>>)
-        requires seats { seats_of (rows_of peers.items) ≡ self.seats }
+        requires linked { AreLinked self (rows_of peers.items) }
         requires ended { HaveEnded (rows_of peers.items) }
         ensures { AreAllTaken (rows_of peers.items) }
     {
-        let Mesh { mut links, .. } = self;
-        while let Some(row) = peers.pop() {
-            settle_row(rt, &mut links, &mut peers, row);
+        let Mesh { mut links } = self;
+        while let Some(mut row) = peers.pop() {
+            while let Some(mine) = row.pop() {
+                let Some(theirs) = peers[row.len()].pop() else {
+                    unreachable!();
+                };
+                let Some(back) = links.pop() else {
+                    unreachable!();
+                };
+                let Some(there) = links.pop() else {
+                    unreachable!();
+                };
+                settle_pair(rt, there, back, theirs, mine);
+            }
         }
-    }
-}
-
-/// Settles the links between the last site, of these peers, and all before it.
-fn settle_row<R: Wait>(rt: &R, links: &mut Vec<Link>, rows: &mut [Vec<Peer>], mut row: Vec<Peer>)
-    requires { IsMesh IsLinked links.old.items (rows_of rows.old) row.items }
-    ensures mesh { IsMesh IsLinked links.new.items (rows_of rows.new) [] }
-    ensures exchanged { IsMesh Exchanged links.new.items (rows_of rows.new) []
-        → IsMesh Exchanged links.old.items (rows_of rows.old) row.items }
-{
-    while let Some(mine) = row.pop() {
-        let Some(theirs) = rows[row.len()].pop() else {
-            unreachable!();
-        };
-        let Some(back) = links.pop() else {
-            unreachable!();
-        };
-        let Some(there) = links.pop() else {
-            unreachable!();
-        };
-        settle_pair(rt, there, back, theirs, mine);
     }
 }
 
 /// Settles the two links between two sites.
 fn settle_pair<R: Wait>(rt: &R, there: Link, back: Link, theirs: Peer, mine: Peer)
-    requires there { (theirs.send.link ≡ there) × (mine.take.link ≡ there) }
-    requires back { (mine.send.link ≡ back) × (theirs.take.link ≡ back) }
-    requires ended { IsTrue (is_ended theirs.take.taken) × IsTrue (is_ended mine.take.taken) }
+    requires { AreEnds there back theirs mine }
     ensures { HaveExchanged theirs mine }
 {
     let Peer { send, take, .. } = theirs;

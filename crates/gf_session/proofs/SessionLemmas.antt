@@ -17,7 +17,6 @@ use Rattle.gf_worker.specs.Messages.{own, messages_of, ops_of, last_message}
 use Rattle.gf_worker.specs.Played.{IsPlayed}
 use Rattle.gf_worker.specs.Ending.{HasSent, HasWorked}
 use Rattle.gf_mesh.specs.Settled.{AreAllTaken}
-use Rattle.gf_mesh.proofs.PlacedLemmas.{got_map}
 use Rattle.gf_session.specs.declared.starting.Start.{Start}
 use Rattle.gf_session.specs.Outcome.{SiteEnd, IsSiteOutcome}
 use Rattle.gf_session.specs.Joined.{IsFrom, IsComplete, AreJoined, HaveOne}
@@ -30,6 +29,12 @@ use Rattle.gf_replicas.specs.Courses.{AreCourses, HaveEvents}
 use Rattle.gf_replicas.proofs.EventLemmas.{courses_have_events}
 use Rattle.gf_session.proofs.GaveLemmas.{gave_number, gave_worked, same_long}
 use Rattle.gf_session.proofs.JoinedLemmas.{one_history, origin}
+
+pub got_map : {X Y : Type 0} (f : X → Y) (xs : List X) (k : ℕ) (y : Y)
+    → slice_get (map f xs) k ≡ Some y → (x : X) × (slice_get xs k ≡ Some x) × (f x ≡ y)
+got_map f [] k y e = absurd cc
+got_map f (x ∷ xs) zero y e = (x, refl, let q : f x ≡ y = cc in q)
+got_map f (x ∷ xs) (suc k) y e = got_map f xs k y e
 
 ops_sent : (ops : List Op) (short : Bool)
     → ops_of (messages_of ops ++ last_message short ∷ []) ≡ ops

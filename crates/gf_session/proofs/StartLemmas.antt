@@ -1,11 +1,12 @@
 -- New sites are ready, and the links between sites whose workers have returned may be settled.
 use Rattle.std.proofs.Common.{◌≡◌, ◌+◌, ◌≤◌, ℕ, false, List, [], ◌∷◌, ◌++◌, map, length}
 use Rattle.std.proofs.Common.{length-append, vec_len, inl, inr, refl, sym, ap, subst, ◌∙◌, arith}
-use Rattle.std.specs.Prelude.{◌⊎◌, Contains, All, Some, slice_get}
+use Rattle.std.specs.Prelude.{◌⊎◌, Contains, All, Some, option_map, slice_get}
 use Rattle.std.specs.List.{list_any}
 use Rattle.std.proofs.lemmas.List.{nil_from_length, append_assoc, append-nil, length-map}
 use Rattle.std.proofs.lemmas.List.{map-append}
 use Rattle.std.proofs.lemmas.List.Elements.{All-contains}
+use Rattle.std.proofs.lemmas.Option.{slice_get-map}
 use Rattle.atomic_table.specs.Seated.{TableId}
 use Rattle.gf_base.proofs.ListLemmas.{Contains-map, Contains-map_from}
 use Rattle.gf_base.proofs.PositionLemmas.{got_push, position_of}
@@ -13,19 +14,20 @@ use Rattle.gf_site.specs.SiteState.{SiteState, new_site}
 use Rattle.gf_worker.specs.declared.script.Script.{Script}
 use Rattle.gf_worker.specs.declared.peer.Peer.{Peer}
 use Rattle.gf_worker.specs.declared.worker.WorkerEnd.{WorkerEnd}
-use Rattle.gf_worker.specs.Peers.{StandsInTable, IsFresh}
+use Rattle.gf_worker.specs.Peers.{StandsInTable, IsFresh, Seat, seat_of}
 use Rattle.gf_worker.proofs.SendLemmas.{all_from}
-use Rattle.gf_mesh.specs.Linked.{AreLinked, HaveEnded, seats_of}
+use Rattle.gf_mesh.specs.Linked.{AreLinked, EachPeer, HaveEnded, IsSeatAt, links_of}
+use Rattle.gf_mesh.proofs.PlaceLemmas.{all_placed}
 use Rattle.gf_session.specs.declared.starting.Start.{Start}
 use Rattle.gf_session.specs.Starting.{AreStarts, IsReadyToStart, GaveAll}
 use Rattle.gf_session.proofs.GaveLemmas.{gave_seats}
-use Rattle.gf_session.proofs.SessionLemmas.{ended}
+use Rattle.gf_session.proofs.SessionLemmas.{ended, got_map}
 
 -- each site is new, and its links stand in the table
 pub all_ready : (links : List TableId) (scripts : List Script) (rows : List (List Peer))
-    (starts : List Start) → AreLinked links rows → AreStarts scripts rows starts
-    → All (λ s. vec_len s.0 ≤ 1000) scripts → All (IsReadyToStart links) starts
-all_ready links scripts rows starts m a few =
+    (starts : List Start) → AreLinked links rows → EachPeer IsFresh rows
+    → AreStarts scripts rows starts → All (λ s. vec_len s.0 ≤ 1000) scripts → All (IsReadyToStart links) starts
+all_ready links scripts rows starts m new a few =
     all_from (IsReadyToStart links) starts (λ s c.
     let k = position_of starts s c in
     let site = a.sites_are k.0 s k.1 in
@@ -37,9 +39,14 @@ all_ready links scripts rows starts m a few =
       few = All-contains (λ (x : Script). vec_len x.0 ≤ 1000) scripts s.script few
           (subst (λ l. Contains l s.script) a.scripts_are
           (Contains-map (λ (x : Start). x.script) starts s c));
-      placed = all_from (StandsInTable links) s.peers.items (m.placed s.peers.items row);
-      fresh = all_from IsFresh s.peers.items (m.fresh s.peers.items row);
+      placed = all_from (StandsInTable links) s.peers.items (all_placed links rows m s.peers.items row);
+      fresh = all_from IsFresh s.peers.items (new s.peers.items row);
     })
+
+-- ---- the peers that the workers give back
+
+abbrev seats_of : List (List Peer) → List (List Seat)
+seats_of rows = map (map seat_of) rows
 
 seats_given : (starts : List Start) (ends : List WorkerEnd) → GaveAll starts ends
     → seats_of (map (λ e. e.seats.items) ends) ≡ seats_of (map (λ s. s.peers.items) starts)
@@ -48,11 +55,38 @@ seats_given [] (e ∷ ends) g = absurd g
 seats_given (s ∷ starts) [] g = absurd g
 seats_given (s ∷ starts) (e ∷ ends) g = λ i. gave_seats s e g.0 i ∷ seats_given starts ends g.1 i
 
--- the workers give back the seats of the mesh
-pub same_seats : (scripts : List Script) (rows : List (List Peer)) (starts : List Start)
-    (ends : List WorkerEnd) → AreStarts scripts rows starts → GaveAll starts ends
-    → seats_of (map (λ e. e.seats.items) ends) ≡ seats_of rows
-same_seats scripts rows starts ends a g = seats_given starts ends g ∙ ap seats_of a.rows_are
+-- what stands at a place of a list is told by the images of all
+told : {X Y : Type 0} (f : X → Y) (us vs : List X) (k : ℕ) (u : X) → map f us ≡ map f vs
+    → slice_get us k ≡ Some u → (v : X) × (slice_get vs k ≡ Some v) × (f v ≡ f u)
+told f us vs k u e a = got_map f vs k (f u)
+    (ap (λ l. slice_get l k) (sym e) ∙ slice_get-map f us k ∙ ap (option_map f) a)
+
+image_long : {X Y : Type 0} (f : X → Y) (us vs : List X) → map f us ≡ map f vs
+    → length us ≡ length vs
+image_long f us vs e = sym (length-map us f) ∙ ap length e ∙ length-map vs f
+
+linked_again : (links : List TableId) (rows us : List (List Peer)) → seats_of us ≡ seats_of rows
+    → AreLinked links rows → AreLinked links us
+linked_again links rows us e s =
+    let n = image_long (map seat_of) us rows e in
+    record {
+      count = s.count ∙ ap links_of (sym n);
+      long = λ i xs a. let t = told (map seat_of) us rows i xs e a in
+          ap (λ k. k + 1) (image_long seat_of xs t.0 (sym t.2)) ∙ s.long i t.0 t.1 ∙ sym n;
+      each = λ i k xs p a b.
+          let t = told (map seat_of) us rows i xs e a in
+          let q = told seat_of xs t.0 k p (sym t.2) b in
+          subst (IsSeatAt links i k) q.2 (s.each i k t.0 q.0 t.1 q.1);
+    }
+
+-- the workers give back the peers of the mesh
+pub still_linked : (links : List TableId) (scripts : List Script) (rows : List (List Peer))
+    (starts : List Start) (ends : List WorkerEnd) → AreStarts scripts rows starts
+    → GaveAll starts ends → AreLinked links rows
+    → AreLinked links (map (λ e. e.seats.items) ends)
+still_linked links scripts rows starts ends a g = linked_again links rows
+    (map (λ (e : WorkerEnd). e.seats.items) ends)
+    (seats_given starts ends g ∙ ap seats_of a.rows_are)
 
 -- each worker took to the end of each of its links
 pub all_ended : (scripts : List Script) (rows : List (List Peer)) (starts : List Start)

@@ -7,11 +7,13 @@ use Rattle.gf_base.proofs.ListLemmas.{Contains-map}
 use Rattle.gf_worker.specs.declared.peer.Peer.{Peer}
 use Rattle.gf_worker.specs.Peers.{StandsInTable, IsFresh}
 use Rattle.gf_worker.proofs.SendLemmas.{all_from}
-use Rattle.gf_mesh.specs.Linked.{MeshTable, AreLinked, rows_of}
+use Rattle.gf_mesh.specs.declared.joining.Mesh.{Mesh}
+use Rattle.gf_mesh.specs.Linked.{AreLinked, EachPeer, rows_of}
+use Rattle.gf_mesh.proofs.PlaceLemmas.{all_placed}
 
-module _ (table : MeshTable) (rows before none : List (Vec Peer)) (first second : Vec Peer)
-    (linked : AreLinked table.links (rows_of rows)) (e : rows ≡ before ++ second ∷ [])
-    (f : before ≡ none ++ first ∷ []) where
+module _ (links : Mesh) (rows before none : List (Vec Peer)) (first second : Vec Peer)
+    (linked : AreLinked links (rows_of rows)) (fresh : EachPeer IsFresh (rows_of rows))
+    (e : rows ≡ before ++ second ∷ []) (f : before ≡ none ++ first ∷ []) where
   row : (v : Vec Peer) → Contains rows v → Contains (rows_of rows) v.items
   row v c = Contains-map (λ (w : Vec Peer). w.items) rows v c
 
@@ -22,14 +24,14 @@ module _ (table : MeshTable) (rows before none : List (Vec Peer)) (first second 
   one = subst (λ l. Contains l first) (sym e) (Contains-append_left before (second ∷ []) first
       (subst (λ l. Contains l first) (sym f) (Contains-push none first)))
 
-  pub first_placed : All (StandsInTable table.links) first.items
-  first_placed = all_from (StandsInTable table.links) first.items
-      (linked.placed first.items (row first one))
+  pub first_placed : All (StandsInTable links) first.items
+  first_placed = all_from (StandsInTable links) first.items
+      (all_placed links (rows_of rows) linked first.items (row first one))
 
   pub first_fresh : All IsFresh first.items
-  first_fresh = all_from IsFresh first.items (linked.fresh first.items (row first one))
+  first_fresh = all_from IsFresh first.items (fresh first.items (row first one))
 
   pub peer_placed : (peers : List Peer) (p : Peer) → second.items ≡ peers ++ p ∷ []
-      → StandsInTable table.links p
-  peer_placed peers p g = linked.placed second.items (row second last) p
+      → StandsInTable links p
+  peer_placed peers p g = all_placed links (rows_of rows) linked second.items (row second last) p
       (subst (λ l. Contains l p) (sym g) (Contains-push peers p))

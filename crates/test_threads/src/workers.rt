@@ -49,9 +49,9 @@ const WORKERS: [(&str, &str, &str); 5] = [
 
 /// The links between two sites, the peers of the first, and the one peer of the second.
 fn two_sites<R: Wait>(rt: &R, alloc: Global) -> Option<(Mesh, Vec<Peer>, Peer)>
-    ensures placed { IfSome result (λ t. All (StandsInTable t.0.links) t.1.items) }
+    ensures placed { IfSome result (λ t. All (StandsInTable t.0) t.1.items) }
     ensures fresh { IfSome result (λ t. All IsFresh t.1.items) }
-    ensures other { IfSome result (λ t. StandsInTable t.0.links t.2) }
+    ensures other { IfSome result (λ t. StandsInTable t.0 t.2) }
 {
     let Ok((mesh, mut rows)) = Mesh::new(rt, alloc, 2) else {
         return None;

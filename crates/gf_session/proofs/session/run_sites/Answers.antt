@@ -2,27 +2,29 @@ use Rattle.std.proofs.Common.{◌≡◌, false, sym, ap, subst, ◌∙◌}
 use Rattle.std.specs.Prelude.{All}
 use Rattle.std.specs.List.{list_any}
 use Rattle.gf_worker.specs.declared.worker.WorkerEnd.{WorkerEnd}
-use Rattle.gf_mesh.specs.Linked.{HaveEnded, rows_of, seats_of}
+use Rattle.gf_mesh.specs.Linked.{AreLinked, HaveEnded, rows_of}
 use Rattle.gf_mesh.specs.Settled.{AreAllTaken}
 use Rattle.gf_session.specs.Starting.{IsReadyToStart}
 use Rattle.gf_session.specs.Session.{IsSession}
 use Rattle.gf_session.proofs.SessionLemmas.{session_outcome}
-use Rattle.gf_session.proofs.StartLemmas.{all_ready, all_ended, same_seats}
+use Rattle.gf_session.proofs.StartLemmas.{all_ready, all_ended, still_linked}
 use Rattle.gf_session.proofs.session.run_sites.Goals as goal
 
 pub fork-ends-requires-clause-ready : goal.fork-ends-requires-clause-ready
 fork-ends-requires-clause-ready g c κs within =
     let starts = c.in_ok-starts.starts.items in
+    let mesh = c.in_ok-mesh in
     subst (λ l. All (IsReadyToStart l) starts) (sym c.links.ensures)
-    (all_ready c.in_ok-mesh.mesh.links c.args.scripts.items (rows_of c.in_ok-mesh.peers.items)
-    starts c.in_ok-mesh.ensures.linked c.in_ok-starts.ensures c.requires.short)
+    (all_ready mesh.mesh c.args.scripts.items (rows_of mesh.peers.items) starts mesh.ensures.linked
+    mesh.ensures.fresh c.in_ok-starts.ensures c.requires.short)
 
-pub settle-requires-clause-seats : goal.settle-requires-clause-seats
-settle-requires-clause-seats g c =
-    ap seats_of c.in_ok-dones.ensures.peers
-    ∙ same_seats c.args.scripts.items (rows_of c.in_ok-mesh.peers.items) c.in_ok-starts.starts.items
-    c.fork-ends.result.items c.in_ok-starts.ensures c.fork-ends.ensures.gave
-    ∙ c.in_ok-mesh.ensures.seats
+pub settle-requires-clause-linked : goal.settle-requires-clause-linked
+settle-requires-clause-linked g c =
+    let mesh = c.in_ok-mesh in
+    subst (AreLinked mesh.mesh) (sym c.in_ok-dones.ensures.peers)
+    (still_linked mesh.mesh c.args.scripts.items (rows_of mesh.peers.items)
+    c.in_ok-starts.starts.items c.fork-ends.result.items c.in_ok-starts.ensures
+    c.fork-ends.ensures.gave mesh.ensures.linked)
 
 pub settle-requires-clause-ended : goal.settle-requires-clause-ended
 settle-requires-clause-ended g c =

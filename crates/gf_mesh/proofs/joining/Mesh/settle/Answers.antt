@@ -1,36 +1,64 @@
-use Rattle.std.proofs.Common.{length, sym, ap, ◌∙◌}
+use Rattle.std.proofs.Common.{length, refl, ◌∙◌}
+use Rattle.std.proofs.lemmas.List.{length-set}
 use Rattle.gf_mesh.specs.Linked.{rows_of}
-use Rattle.gf_mesh.proofs.PlacedLemmas.{linked_again}
-use Rattle.gf_mesh.proofs.RowLemmas.{row_linked, row_back, rest_settled, all_settled}
+use Rattle.gf_mesh.proofs.RowLemmas.{settle_begun, row_begun, row_done, settle_done, not_empty}
+use Rattle.gf_mesh.proofs.RowLemmas.{pair_ends, pair_settled}
 use Rattle.gf_mesh.proofs.joining.Mesh.settle.Goals as goal
 
 pub loop-row-init : goal.loop-row-init
-loop-row-init g c =
-    let m = c.self.inside in (
-      linked_again m.links.items (rows_of m.first.value.items) (rows_of c.args.peers.items)
-          c.self.invariant (c.requires.seats ∙ ap (λ t. t.seats) (sym c.self.view_is))
-          c.requires.ended,
-      λ x. x,
-    )
+loop-row-init g c = settle_begun c.args.self c.self.inside.links.items c.args.peers.items
+    c.self.view_is c.requires.linked
 
-pub settle_row-requires : goal.settle_row-requires
-settle_row-requires g c =
-    row_linked c.loop-row.links.items c.loop-row.peers.items c.pop.new.self.items
-    c.deref_mut.result.now c.in-Some.row c.loop-row.invariant.0 c.in-Some.ensures.items
-    c.deref_mut.ensures.value
+pub loop-mine-init : goal.loop-mine-init
+loop-mine-init g c = (
+  row_begun c.args.self (rows_of c.args.peers.items) (length c.loop-row.peers.items)
+      c.loop-row.links.items c.loop-row.peers.items c.pop.new.self.items c.in-Some.row
+      c.in-Some.ensures.items c.loop-row.invariant,
+  refl,
+)
+
+pub unreachable-requires : goal.unreachable-requires
+unreachable-requires g c =
+    let l = c.loop-mine in
+    not_empty c.args.self (rows_of c.args.peers.items) l.links.items l.peers.items l.row.items
+    c.pop-in-loop-mine.new.self.items c.in-Some-pop.mine c.len.result c.index_mut.result.now
+    l.invariant.0 c.in-Some-pop.ensures.items (c.len.ensures ∙ c.pop-in-loop-mine.new.self.ok.0)
+    c.index_mut.ensures.value c.in_default-pop-2.ensures.cases.0
+
+pub settle_pair-requires : goal.settle_pair-requires
+settle_pair-requires g c =
+    let l = c.loop-mine in
+    pair_ends c.args.self (rows_of c.args.peers.items) l.links.items l.peers.items l.row.items
+    c.pop-in-loop-mine.new.self.items c.in-Some-pop.mine c.len.result c.index_mut.result.now
+    l.invariant.0 c.in-Some-pop.ensures.items (c.len.ensures ∙ c.pop-in-loop-mine.new.self.ok.0)
+    c.index_mut.ensures.value
+    c.requires.linked c.requires.ended c.pop-in-Some-pop.new.self c.in-Some-pop-2.theirs
+    c.pop-in-Some-pop-3.new.self.items c.pop-in-Some-pop-2.new.self.items c.in-Some-pop-4.there
+    c.in-Some-pop-3.back c.in-Some-pop-2.ensures.items c.in-Some-pop-3.ensures.items
+    c.in-Some-pop-4.ensures.items
+
+pub loop-mine-preserved : goal.loop-mine-preserved
+loop-mine-preserved g c =
+    let l = c.loop-mine in (
+      pair_settled c.args.self (rows_of c.args.peers.items) l.links.items l.peers.items l.row.items
+          c.pop-in-loop-mine.new.self.items c.in-Some-pop.mine c.len.result c.index_mut.result.now
+          l.invariant.0 c.in-Some-pop.ensures.items (c.len.ensures ∙ c.pop-in-loop-mine.new.self.ok.0)
+          c.index_mut.ensures.value
+          c.requires.linked c.requires.ended c.pop-in-Some-pop.new.self c.in-Some-pop-2.theirs
+          c.pop-in-Some-pop-3.new.self.items c.pop-in-Some-pop-2.new.self.items c.in-Some-pop-4.there
+          c.in-Some-pop-3.back c.in-Some-pop-2.ensures.items c.in-Some-pop-3.ensures.items
+          c.in-Some-pop-4.ensures.items c.settle_pair.ensures,
+      length-set l.peers.items c.len.result c.pop-in-Some-pop.new.self ∙ l.invariant.1,
+    )
 
 pub loop-row-preserved : goal.loop-row-preserved
 loop-row-preserved g c =
-    let back = row_back c.loop-row.links.items c.loop-row.peers.items c.pop.new.self.items
-    c.deref_mut.result.now c.in-Some.row c.loop-row.invariant.0 c.in-Some.ensures.items
-    c.deref_mut.ensures.value in
-    rest_settled c.settle_row.new.links.items c.self.inside.links.items (rows_of c.args.peers.items)
-    c.settle_row.new.rows c.pop.new.self (c.settle_row.auto.rows
-    ∙ ap length c.deref_mut.ensures.value) c.settle_row.ensures.mesh
-    (λ x. c.loop-row.invariant.1 (back (c.settle_row.ensures.exchanged x)))
+    let l = c.loop-mine in
+    row_done c.args.self (rows_of c.args.peers.items) (length l.peers.items) l.links.items
+    (rows_of l.peers.items) l.row c.in_default-pop.ensures.cases.0 l.invariant.0
 
 pub returns : goal.returns
 returns g c =
-    all_settled c.loop-row.links.items c.self.inside.links.items c.loop-row.peers
-    (rows_of c.args.peers.items) c.in_default.ensures.cases.0 c.loop-row.invariant.0
-    c.loop-row.invariant.1
+    let l = c.loop-row in
+    settle_done c.args.self (rows_of c.args.peers.items) l.links.items l.peers c.requires.linked
+    c.in_default.ensures.cases.0 l.invariant
