@@ -8,7 +8,7 @@ pub returns-in-Some-clause-all : goal.returns-in-Some-clause-all
 returns-in-Some-clause-all c = λ k n.
     let w = c.in-Some.ensures.found in
     let same = same_position c.args.history.now.ops c.recall_valid.ensures n.position
-      c.in-Some.position
+    c.in-Some.position
     n.op w.op n.at w.at (n.named ∙ sym w.id) in
     c.class_of.ensures.all k
     (subst (λ z. IsClassOf c.args.positions.now c.args.direct.now z k) same n.class)
