@@ -1,3 +1,4 @@
 pub mod ScriptLemmas
 pub mod LineLemmas
 pub mod OutcomeLemmas
+pub mod RunLemmas

@@ -29,8 +29,8 @@ use Rattle.gf_site.proofs.ValidLemmas.{valid_nil}
 use Rattle.gf_session.specs.Session.{IsSession, site_end, site_ends}
 use Rattle.gf_session_run.specs.DenotedScripts.{DenotesScripts}
 use Rattle.gf_session_run.specs.Reports.{report_text}
-use Rattle.gf_session_run.specs.SessionRun.{IsSiteCount, PlaysScripts, TellsSession}
-use Rattle.gf_session_run.specs.SessionSteps.{RefusesPlaying, RefusesTelling, TellsHistory}
+use Rattle.gf_session_run.specs.SessionRun.{IsSiteCount, PlaysScripts, RefusesSession, TellsSession}
+use Rattle.gf_session_run.specs.SessionSteps.{RefusesTelling, TellsHistory}
 use Rattle.gf_session_run.specs.declared.session_run_error.SessionRunError.TheVariants as run
 
 -- the place that a site has in the outcome
@@ -143,7 +143,7 @@ module _ (n : ℕ) (bytes : List ℕ) (scripts : List Script) (dones : List Done
   }
 
   pub not_told : (e : StudioError) → RefusesTelling first.site.ops e
-      → RefusesPlaying n bytes (run.Run e)
+      → RefusesSession n bytes (run.Run e)
   not_told (studio.Compile compile.TooManyVersions) refused = record {
     dones = dones;
     history = first.site.ops;

@@ -1,10 +1,12 @@
 //! From the bytes of a session text to the text that tells what came of it.
 
-ghost use Rattle.std.specs.Prelude.{◌≡◌, ◌≢◌, ◌≤◌, ◌++◌, Err, All, IfOk, IfErr, vec_len};
+ghost use Rattle.std.specs.Prelude.{◌≡◌, ◌≢◌, ◌≤◌, ◌++◌, Err, All, IfOk, IfErr, IfSome, vec_len};
 ghost use Rattle.gf_session.specs.Session.{IsSession};
+ghost use Rattle.gf_run.specs.RefusedRuns.{IsBetween};
 ghost use Rattle.gf_session_run.specs.Reports.{report_text};
-ghost use Rattle.gf_session_run.specs.SessionRun.{IsSiteCount, TellsSession};
-ghost use Rattle.gf_session_run.specs.SessionSteps.{RefusesPlaying, RefusesTelling, TellsHistory};
+ghost use Rattle.gf_session_run.specs.SessionRun.{IsSiteCount, RefusesSession, TellsSession};
+ghost use Rattle.gf_session_run.specs.SessionRun.{of_session};
+ghost use Rattle.gf_session_run.specs.SessionSteps.{RefusesTelling, TellsHistory};
 
 use crate::SessionRunError;
 use crate::reports::push_reports;
@@ -12,7 +14,7 @@ use crate::scripts::read_scripts;
 use gf_base::OutOfMemory;
 use gf_fig_write::fig_bytes;
 use gf_gate::Gate;
-use gf_run::StudioError;
+use gf_run::{Answer, StudioError};
 use gf_session::{Done, SessionError, run_session};
 use gf_site::Site;
 use gf_studio::draw_replica;
@@ -28,15 +30,16 @@ pub(crate) fn play<T: Threads + Wait + Sync, G: Gate + Sync>(
     bytes: Vec<u8>,
     sites: u8,
     gate: &G,
-) -> Result<Vec<u8>, SessionRunError>
+) -> Result<Answer<()>, SessionRunError>
     requires { IsSiteCount sites }
-    ensures ok { IfOk result (λ text. TellsSession sites bytes.items text.items) }
-    ensures err { IfErr result (RefusesPlaying sites bytes.items) }
+    ensures ok { IfOk result (λ told. TellsSession sites bytes.items told.text.items) }
+    ensures refused { IfErr result (RefusesSession sites bytes.items) }
+    ensures between { IfErr result (λ e. IfSome (of_session e) IsBetween) }
 {
     let scripts = read_scripts(alloc, bytes, sites)?;
     let dones = run(rt, alloc, scripts, gate)?;
     match tell(alloc, dones.as_slice(), &dones[0].site) {
-        Ok(text) => Ok(text),
+        Ok(text) => Ok(Answer { text, value: () }),
         Err(fault) => Err(SessionRunError::Run(fault)),
     }
 }

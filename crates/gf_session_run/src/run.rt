@@ -1,9 +1,7 @@
 //! The whole run over a session text.
 
-ghost use Rattle.std.specs.Prelude.{◌≡◌, ◌≢◌, ◌↔◌, ◌≤◌, Err, Some, IfSome, IfOk, IfErr, OnOk};
-ghost use Rattle.std.specs.Prelude.{IsTrue};
+ghost use Rattle.std.specs.Prelude.{◌≡◌, ◌↔◌, Err, IfSome, IfErr, IsTrue, OnOk};
 ghost use Rattle.gf_session.specs.declared.session.SessionError.{SessionError};
-ghost use Rattle.gf_run.specs.declared.studio_error.StudioError.{StudioError};
 ghost use Rattle.gf_run.specs.RunAnswers.{LeavesSinkBy, ReadsInputBy};
 ghost use Rattle.gf_session_run.specs.SessionRun.{IsSiteCount, RefusesSession, TellsSession};
 ghost use Rattle.gf_session_run.specs.SessionRun.{WritesSession, of_session};
@@ -11,9 +9,9 @@ ghost use Rattle.gf_session_run.specs.SessionRun.{WritesSession, of_session};
 use crate::SessionRunError;
 use crate::playing::play;
 use gf_gate::Gate;
-use gf_run::{StudioError, input};
+use gf_run::run;
 use gf_session::SessionError;
-use gf_streams::{Sink, SinkFault, Source, write_whole};
+use gf_streams::{Sink, Source};
 use std::alloc::Global;
 use std::sync::Wait;
 use std::thread::Threads;
@@ -53,36 +51,18 @@ pub fn session_run<T: Threads + Wait + Sync, R: Source, W: Sink, G: Gate + Sync>
     if !is_site_count(sites) {
         return Err(SessionRunError::Session(SessionError::Sites));
     }
-    let text = play_lines(rt, alloc, source, sites, gate)?;
-    match write_whole(sink, &text) {
-        Ok(()) => Ok(()),
-        Err(SinkFault) => Err(SessionRunError::Run(StudioError::WriteFailed)),
-    }
+    run(
+        alloc,
+        source,
+        sink,
+        |bytes|
+            requires { IsSiteCount sites }
+        { play(rt, alloc, bytes, sites, gate) },
+    )
 }
 
 fn is_site_count(sites: u8) -> bool
     ensures { IsTrue result ↔ IsSiteCount sites }
 {
     2 <= sites && sites <= 8
-}
-
-/// The text that tells of a session of the scripts that the lines of a source denote.
-fn play_lines<T: Threads + Wait + Sync, R: Source, G: Gate + Sync>(
-    rt: &T,
-    alloc: Global,
-    source: &mut R,
-    sites: u8,
-    gate: &G,
-) -> Result<Vec<u8>, SessionRunError>
-    requires { IsSiteCount sites }
-    ensures ok { IfOk result (λ text. IfSome (R.left source.old) (λ bytes.
-        TellsSession sites bytes text.items)) }
-    ensures source { ReadsInputBy R.Source source.old source.new of_session result }
-    ensures refused { IfErr result (λ e. IfSome (R.left source.old) (λ bytes.
-        RefusesSession sites bytes e)) }
-    ensures no_write { IfErr result (λ e. of_session e ≢ Some StudioError.WriteFailed) }
-    ensures no_sites { result ≢ Err (SessionRunError.Session SessionError.Sites) }
-{
-    let bytes = input(alloc, source)?;
-    play(rt, alloc, bytes, sites, gate)
 }

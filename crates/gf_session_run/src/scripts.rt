@@ -1,15 +1,13 @@
 //! From the lines of a session text to the scripts of its sites.
 
-ghost use Rattle.std.specs.Prelude.{◌≡◌, ◌<◌, ◌↔◌, [], length, IsTrue, IfOk, IfErr, OnOk};
+ghost use Rattle.std.specs.Prelude.{◌<◌, ◌↔◌, ◌∷◌, ℕ, List, [], length, IsTrue, IfOk, IfErr, OnOk};
 ghost use Rattle.gf_session_run.specs.DenotedScripts.{AreScriptsOf, DenotesScripts};
-ghost use Rattle.gf_session_run.specs.SessionSteps.{GainsCommand, HasNoRoomAt, RefusesScriptLine};
+ghost use Rattle.gf_session_run.specs.SessionSteps.{GainsCommand, HasNoRoomAt, HasScripts};
 ghost use Rattle.gf_session_run.specs.SessionSteps.{RefusesScripts};
-ghost use Rattle.gf_session_run.specs.SessionSteps.{TakesCommand, of_line};
 
 use gf_base::OutOfMemory;
-use gf_json::{Command, LineError, ScriptLine, read_script};
-use gf_replay::LineCause;
-use gf_run::StudioError;
+use gf_json::{Command, ScriptLine, read_script};
+use gf_replay::{LineCause, ReadingError, line_refusal};
 use gf_streams::TextLines;
 use gf_worker::Script;
 use std::alloc::Global;
@@ -22,12 +20,12 @@ pub(crate) fn read_scripts(
     alloc: Global,
     text: Vec<u8>,
     sites: u8,
-) -> Result<Vec<Script>, StudioError>
+) -> Result<Vec<Script>, ReadingError>
     ensures ok { IfOk result (λ scripts. DenotesScripts sites text.items scripts.items) }
     ensures err { IfErr result (RefusesScripts sites text.items) }
 {
     let Ok(mut scripts) = empty_scripts(alloc, sites) else {
-        return Err(StudioError::OutOfMemory);
+        return Err(ReadingError::OutOfMemory);
     };
     let mut lines = TextLines::new(text);
     while let Some((number, line)) = lines.first() {
@@ -54,9 +52,13 @@ fn take_line(
     scripts: &mut [Script],
     number: u64,
     line: &[u8],
-) -> Result<(), StudioError>
-    ensures ok { OnOk result (TakesCommand line.now scripts.old scripts.new) }
-    ensures err { IfErr result (RefusesScriptLine number line.now scripts.old) }
+) -> Result<(), ReadingError>
+    ensures ok { (n : ℕ) (bytes : List ℕ) (left : List (ℕ × List ℕ))
+        → HasScripts n bytes ((number, line.now) ∷ left) scripts.old
+        → OnOk result (HasScripts n bytes left scripts.new) }
+    ensures err { (n : ℕ) (bytes : List ℕ) (left : List (ℕ × List ℕ))
+        → HasScripts n bytes ((number, line.now) ∷ left) scripts.old
+        → IfErr result (RefusesScripts n bytes) }
 {
     let ScriptLine { site, command } = match read_script(alloc, line) {
         Ok(read) => read,
@@ -64,11 +66,11 @@ fn take_line(
     };
     let index = usize::from(site) - 1;
     if is_full(scripts, index) {
-        return Err(StudioError::Line(number, LineCause::Range));
+        return Err(ReadingError::Line(number, LineCause::Range));
     }
     match give(scripts, index, command) {
         Ok(()) => Ok(()),
-        Err(OutOfMemory) => Err(StudioError::OutOfMemory),
+        Err(OutOfMemory) => Err(ReadingError::OutOfMemory),
     }
 }
 
@@ -89,15 +91,4 @@ fn give(scripts: &mut [Script], index: usize, command: Command) -> Result<(), Ou
 {
     scripts[index].0.push(command)?;
     Ok(())
-}
-
-fn line_refusal(number: u64, fault: LineError) -> StudioError
-    ensures { result ≡ of_line number fault }
-{
-    match fault {
-        LineError::Json => StudioError::Line(number, LineCause::Json),
-        LineError::Field => StudioError::Line(number, LineCause::Field),
-        LineError::Range => StudioError::Line(number, LineCause::Range),
-        LineError::OutOfMemory => StudioError::OutOfMemory,
-    }
 }

@@ -1,10 +1,13 @@
 //! Why the run over a session text was refused.
 
 ghost use Rattle.std.specs.Prelude.{◌≡◌};
+ghost use Rattle.gf_run.specs.Refusals.{of_reading};
 ghost use Rattle.gf_session_run.specs.declared.session_run_error.SessionRunError.TheVariants as run;
 ghost use Rattle.gf_session_run.specs.ErrorTexts.{error_text};
+ghost use Rattle.gf_session_run.specs.SessionRun.{of_session};
 
-use gf_run::StudioError;
+use gf_replay::ReadingError;
+use gf_run::{RunError, StudioError};
 use gf_session::SessionError;
 use std::fmt;
 
@@ -39,10 +42,26 @@ impl From<StudioError> for SessionRunError {
     }
 }
 
+impl From<ReadingError> for SessionRunError {
+    ghost from_gives = { λ fault e. e ≡ run.Run (of_reading fault) };
+
+    fn from(fault: ReadingError) -> SessionRunError {
+        SessionRunError::Run(StudioError::from(fault))
+    }
+}
+
 impl From<SessionError> for SessionRunError {
     ghost from_gives = { λ fault e. e ≡ run.Session fault };
 
     fn from(fault: SessionError) -> SessionRunError {
         SessionRunError::Session(fault)
+    }
+}
+
+impl RunError for SessionRunError {
+    ghost shared = { of_session };
+
+    fn of_run(fault: StudioError) -> SessionRunError {
+        SessionRunError::Run(fault)
     }
 }

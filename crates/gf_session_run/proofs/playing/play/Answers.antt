@@ -16,8 +16,8 @@ returns-in-Ok-clause-ok g c =
     (first_there c.args.sites c.args.bytes.items scripts dones first c.requires denoted session
     c.index.ensures) c.in-Ok.text.items tells
 
-pub returns-clause-err : goal.returns-clause-err
-returns-clause-err g c =
+pub returns-clause-refused : goal.returns-clause-refused
+returns-clause-refused g c =
     let scripts = c.in_ok-scripts.scripts.items in
     let dones = c.in_ok-dones.dones.items in
     let first = c.index.result.now in
