@@ -19,6 +19,20 @@ pub enum AnyShape {
     Polygon(Polygon),
 }
 
+impl AnyShape {
+    /// A copy of the shape.
+    pub fn copy(&self, alloc: Global) -> Result<AnyShape, OutOfMemory>
+        ensures { IfOk result (λ shape. shape ≡ self.now) }
+    {
+        match self {
+            AnyShape::Rect(rect) => Ok(AnyShape::Rect(*rect)),
+            AnyShape::Circle(circle) => Ok(AnyShape::Circle(*circle)),
+            AnyShape::Ellipse(ellipse) => Ok(AnyShape::Ellipse(*ellipse)),
+            AnyShape::Polygon(polygon) => Ok(AnyShape::Polygon(polygon.copy(alloc)?)),
+        }
+    }
+}
+
 impl Shape for AnyShape {
     ghost holds = { any_holds };
 

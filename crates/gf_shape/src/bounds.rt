@@ -1,7 +1,7 @@
 //! Where a shape lies at most.
 
 ghost use Rattle.std.specs.Prelude.{◌≡◌};
-ghost use Rattle.gf_shape.specs.BoundsOf.{least, most, with};
+ghost use Rattle.gf_shape.specs.BoundsOf.{with};
 
 use crate::Point;
 
@@ -18,28 +18,8 @@ impl Bounds {
         ensures { result ≡ with self p }
     {
         Bounds {
-            low: least(self.low, p),
-            high: most(self.high, p),
+            low: self.low.least(p),
+            high: self.high.most(p),
         }
-    }
-}
-
-/// The lesser of both coordinates.
-fn least(p: Point, q: Point) -> Point
-    ensures { result ≡ least p q }
-{
-    Point {
-        x: p.x.min(q.x),
-        y: p.y.min(q.y),
-    }
-}
-
-/// The greater of both coordinates.
-fn most(p: Point, q: Point) -> Point
-    ensures { result ≡ most p q }
-{
-    Point {
-        x: p.x.max(q.x),
-        y: p.y.max(q.y),
     }
 }

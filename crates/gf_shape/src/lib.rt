@@ -37,7 +37,7 @@ pub use chain::Chain;
 pub use circle::Circle;
 pub use disc::Disc;
 pub use ellipse::Ellipse;
-pub use gf_plane::{Point, REACH, Rgb};
+pub use gf_plane::{Point, REACH, Rgb, WHITE};
 pub use gf_spans::Span;
 pub use outline::Outline;
 pub use oval::Oval;

@@ -61,6 +61,14 @@ impl Polygon {
             Err(OutOfMemory) => Err(PolygonError::OutOfMemory),
         }
     }
+
+    /// A copy of the polygon.
+    pub(crate) fn copy(&self, alloc: Global) -> Result<Polygon, OutOfMemory>
+        ensures { IfOk result (λ polygon. polygon ≡ self.now) }
+    {
+        let ring = self.ring.copy(alloc)?;
+        Ok(Polygon { ring })
+    }
 }
 
 /// The chain round these points.

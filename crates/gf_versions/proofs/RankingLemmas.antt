@@ -210,6 +210,37 @@ ranked_from_sorted h groups made items valid once shown moved sorted = record {
     turned : IsPermutation (items_of vs) items
     turned = subst (λ from. IsPermutation from items) shown.placed moved
 
+-- ---- items with different keys
+
+-- the first item has another key than each later one
+first_apart : (i : Placed AnyShape) (items : List (Placed AnyShape))
+    → AllPairs (λ j k. j.key ≢ k.key) (i ∷ items) → (j : Placed AnyShape) → Contains items j
+    → same_key i j ≡ false
+first_apart i items apart j (k, inside, e) =
+    let different : i.key ≢ j.key = subst (λ (z : Placed AnyShape). i.key ≢ z.key) e
+    (apart 0 (suc k) j (omega arith) (omega arith)) in
+    elim (cases_Bool (same_key i j)) [
+      | inl t ↦ absurd (different (key_cmp_exact i.key j.key (equal_left _ t)))
+      | inr t ↦ t
+    ]
+
+keys_distinct : (items : List (Placed AnyShape)) → AllPairs (λ i j. i.key ≢ j.key) items
+    → IsDistinct same_key items
+unfolding IsDistinct
+keys_distinct [] apart = tt
+keys_distinct (i ∷ items) apart = IsDistinct-cons same_key i items
+    (recursion_from_All _ _ (All-weaker (Contains items) (λ j. same_key i j ≡ false)
+    (first_apart i items apart) items (All-contains_itself items)))
+    (keys_distinct items (λ j k d before inside. apart (suc j) (suc k) d (omega arith)
+    (omega arith)))
+
+-- sorted, they fall
+pub falling_by_keys : (made items : List (Placed AnyShape)) → AllPairs (λ i j. i.key ≢ j.key) made
+    → IsPermutation made items → IsSortedBy falls_by items
+    → AllPairs (λ i j. IsAbove i.key j.key) items
+falling_by_keys made items apart moved sorted = falling_from_sorted items sorted
+    (IsDistinct-IsPermutation same_key same_key-flips made items moved (keys_distinct made apart))
+
 shown_fewer : (vs : List Version) → length (shown_of vs) ≤ length vs
 shown_fewer [] = omega arith
 shown_fewer (v ∷ vs) =

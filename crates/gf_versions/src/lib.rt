@@ -6,7 +6,7 @@
 //!   [`MOST_VERSIONS`].
 //! - [`sets`]: whether an operation gives an attribute a value.
 //! - [`settle`]: makes the version of a group, [`settle_all`] those of some groups; [`ranked_of`]:
-//!   ranks the visible ones of some groups.
+//!   ranks the visible ones of some groups, [`rank`] some that are made.
 //! - [`a_version_settles_each_attribute_once`], [`versions_are_in_a_total_order`],
 //!   [`one_colour_at_a_point`], [`the_first_that_holds_is_on_top`]: the laws.
 //! - [`the_same_operations_rank_alike`]: the law that the order of a history says nothing.
@@ -27,5 +27,5 @@ pub use laws::{
     the_same_operations_rank_alike, versions_are_in_a_total_order,
 };
 pub use placed::{Placed, Ranked};
-pub use ranking::{MOST_VERSIONS, ranked_of};
+pub use ranking::{MOST_VERSIONS, rank, ranked_of};
 pub use settling::{settle, settle_all};

@@ -7,6 +7,7 @@ ghost use Rattle.gf_ops.specs.Limits.{is_form, is_near};
 ghost use Rattle.gf_ops.specs.ValidHistory.{IsValid};
 ghost use Rattle.gf_groups.specs.declared.group.Group.{Group};
 ghost use Rattle.gf_groups.specs.Versions.{IsVersionGroup};
+ghost use Rattle.gf_versions.specs.Above.{IsAbove};
 ghost use Rattle.gf_versions.specs.Falling.{falls_by};
 ghost use Rattle.gf_versions.specs.Ranking.{AreRankedOf, placed_version};
 ghost use Rattle.gf_versions.specs.ListedVersions.{AreShown};
@@ -35,6 +36,17 @@ pub fn ranked_of(
     ensures few { IfOk result (λ ranked. length ranked.items.items ≤ length groups.now) }
 {
     let mut items = shown(alloc, history, groups)?;
+    sort(&mut items)?;
+    Ok(Ranked { items })
+}
+
+/// The items, topmost first.
+pub fn rank(mut items: Vec<Placed<AnyShape>>) -> Result<Ranked<AnyShape>, OutOfMemory>
+    requires { AllPairs (λ i j. i.key ≢ j.key) items.items }
+    ensures moved { IfOk result (λ ranked. IsPermutation items.items ranked.items.items) }
+    ensures falling { IfOk result (λ ranked.
+        AllPairs (λ i j. IsAbove i.key j.key) ranked.items.items) }
+{
     sort(&mut items)?;
     Ok(Ranked { items })
 }

@@ -22,14 +22,14 @@ use Rattle.gf_maximal.specs.Rows.{conflict}
 use Rattle.gf_maximal.proofs.ClassLemmas.{gathered_largest, gathered_rises, in_spread, spread_gathered}
 use Rattle.gf_maximal.proofs.ClassLemmas.{spread_largest, spread_one, spread_rises}
 use Rattle.gf_visible.specs.declared.says.Says.{Says}
-use Rattle.gf_visible.specs.ClassSays.{covers, hides, raised, said, says_of, silent}
+use Rattle.gf_visible.specs.ClassSays.{covers, hides, either_clock, said, says_of, silent}
 use Rattle.gf_visible.specs.ClassSays.{with_op, with_said}
 use Rattle.gf_visible.specs.ShownAt.{covers_at, hides_at, later_at, shows_at, shows_or_hides_at}
 use Rattle.gf_visible.specs.Choices.{AreShowing, IsCovered, IsShowing}
 use Rattle.gf_visible.specs.ShownSets.{HasMoreSets, HasMoreShowing, IsSetListing}
 use Rattle.gf_visible.proofs.SetterLemmas.{setter_shows}
 use Rattle.gf_visible.proofs.ShownSetLemmas.{are_shown}
-use Rattle.gf_visible.proofs.TimelineLemmas.{entry_raised, entry_none}
+use Rattle.gf_visible.proofs.TimelineLemmas.{entry_either_clock, entry_none}
 use Rattle.gf_base.proofs.ListLemmas.{Contains-cons_cases, Contains-cons_head, Contains-cons_tail}
 use Rattle.gf_base.proofs.ListLemmas.{Contains-map, Contains-map_from, not_Contains-nil}
 use Rattle.gf_base.proofs.PairLemmas.{AllPairs-map}
@@ -131,7 +131,8 @@ module _ (h : List Op) where
     })
 
     with_showing : (a : Op) (w : Says_at h i true) → w.op ≡ a
-        → IsSaid (Or p i) (record { site = s.site; last = s.last; known = raised s.known a.past })
+        → IsSaid (Or p i)
+        (record { site = s.site; last = s.last; known = either_clock s.known a.past })
     with_showing a x same = record {
       hides = λ b j w. elim j [
         | inl y ↦ k.hides b y w
@@ -143,7 +144,7 @@ module _ (h : List Op) where
       ];
       last = λ l. let v = k.last l in (v.0, v.1, inl v.2, v.3, v.4);
       knows = λ b j w t site.
-          let e = entry_raised s.known a.past t site in
+          let e = entry_either_clock s.known a.past t site in
           elim j [
             | inl y ↦ let l = k.knows b y w t site in omega (arith, e, l)
             | inr f ↦
@@ -153,7 +154,7 @@ module _ (h : List Op) where
                 omega (arith, e, past)
           ];
       from = λ t site l.
-          let e = entry_raised s.known a.past t site in
+          let e = entry_either_clock s.known a.past t site in
           elim (cases_lt (entry s.known t) (entry a.past t)) [
             | inl m ↦
                 let past : entry x.op.past t ≡ entry a.past t =

@@ -21,7 +21,7 @@ use Rattle.gf_ops.specs.OperationOrder.{IsSite, entry}
 use Rattle.gf_visible.specs.declared.says.Says.{Says}
 use Rattle.gf_visible.specs.ClassSays.{are_calm, are_sides, covers, greater, hides, is_after}
 use Rattle.gf_visible.specs.ClassSays.{is_deciding, is_other, known_in, knows_some, matters}
-use Rattle.gf_visible.specs.ClassSays.{no_clock, raised, said}
+use Rattle.gf_visible.specs.ClassSays.{no_clock, either_clock, said}
 use Rattle.gf_visible.specs.Seen.{IsCalm, seen, stands}
 
 -- nothing meets the set of none
@@ -32,7 +32,8 @@ none_meets (a ∷ g) = none_meets g
 -- ---- clocks
 
 -- the entries of what either clock knows
-entry_greater : (c d : Clock) (i : ℕ) → i < 8 → slice_index_or (raised c d).0 i 0 ≡ greater c d i
+entry_greater : (c d : Clock) (i : ℕ) → i < 8
+    → slice_index_or (either_clock c d).0 i 0 ≡ greater c d i
 entry_greater c d zero l = refl
 entry_greater c d (suc zero) l = refl
 entry_greater c d (suc (suc zero)) l = refl
@@ -43,8 +44,9 @@ entry_greater c d (suc (suc (suc (suc (suc (suc zero)))))) l = refl
 entry_greater c d (suc (suc (suc (suc (suc (suc (suc zero))))))) l = refl
 entry_greater c d (suc (suc (suc (suc (suc (suc (suc (suc i)))))))) l = absurd (omega arith)
 
-pub entry_raised : (c d : Clock) (s : ℕ) → IsSite s → entry (raised c d) s ≡ max (entry c s) (entry d s)
-entry_raised c d s w = let l = w.1 in let m = w.0 in entry_greater c d (s - 1) (omega arith)
+pub entry_either_clock : (c d : Clock) (s : ℕ) → IsSite s
+    → entry (either_clock c d) s ≡ max (entry c s) (entry d s)
+entry_either_clock c d s w = let l = w.1 in let m = w.0 in entry_greater c d (s - 1) (omega arith)
 
 no_entry : (i : ℕ) → slice_index_or no_clock.0 i 0 ≡ 0
 no_entry zero = refl
@@ -81,15 +83,16 @@ module _ (t : List Says) (s : Says) (site : IsSite s.site) where
   and_or true b c = refl
   and_or false b c = refl
 
-  raised_after : (c d : Clock) → is_after s (raised c d) ≡ (is_after s c || is_after s d)
-  raised_after c d =
-      ap (λ n. nat_lt 0 s.last && nat_le s.last n) (entry_raised c d s.site site)
+  either_clock_after : (c d : Clock)
+      → is_after s (either_clock c d) ≡ (is_after s c || is_after s d)
+  either_clock_after c d =
+      ap (λ n. nat_lt 0 s.last && nat_le s.last n) (entry_either_clock c d s.site site)
       ∙ (ap (λ b. nat_lt 0 s.last && b) (le_max s.last (entry c s.site) (entry d s.site))
       ∙ and_or (nat_lt 0 s.last) (nat_le s.last (entry c s.site))
       (nat_le s.last (entry d s.site)))
 
   known_from : (g : List ℕ) (c : Clock)
-      → is_after s (fold (λ (c : Clock) (k : ℕ). raised c (said t k).known) c g)
+      → is_after s (fold (λ (c : Clock) (k : ℕ). either_clock c (said t k).known) c g)
       ≡ (is_after s c || list_any (λ k. is_after s (said t k).known) g)
   known_from [] c = sym (or_false (is_after s c))
     where
@@ -97,9 +100,9 @@ module _ (t : List Says) (s : Says) (site : IsSite s.site) where
       or_false true = refl
       or_false false = refl
   known_from (k ∷ g) c =
-      known_from g (raised c (said t k).known)
+      known_from g (either_clock c (said t k).known)
       ∙ (ap (λ b. b || list_any (λ k. is_after s (said t k).known) g)
-      (raised_after c (said t k).known)
+      (either_clock_after c (said t k).known)
       ∙ or_assoc (is_after s c) (is_after s (said t k).known)
       (list_any (λ k. is_after s (said t k).known) g))
 

@@ -21,8 +21,8 @@ abbrev pub greater : Clock → Clock → ℕ → ℕ
 greater c d i = max (slice_index_or c.0 i 0) (slice_index_or d.0 i 0)
 
 -- what either clock knows
-abbrev pub raised : Clock → Clock → Clock
-raised c d = record {
+abbrev pub either_clock : Clock → Clock → Clock
+either_clock c d = record {
   0 = greater c d 0 ∷ greater c d 1 ∷ greater c d 2 ∷ greater c d 3 ∷ greater c d 4
       ∷ greater c d 5 ∷ greater c d 6 ∷ greater c d 7 ∷ [];
 }
@@ -39,7 +39,7 @@ pub record TimelineState : Type 0 where
 -- what is said, with what the operation a says
 abbrev pub with_said : Option Bool → Says → Op → Says
 with_said (Some true) s a =
-    record { site = s.site; last = s.last; known = raised s.known a.past }
+    record { site = s.site; last = s.last; known = either_clock s.known a.past }
 with_said (Some false) s a =
     record { site = a.id.site; last = max s.last a.id.seq; known = s.known }
 with_said None s a = s
@@ -71,7 +71,7 @@ covers t k j = is_after (said t k) (said t j).known
 
 -- what the showings of the classes g know
 abbrev pub known_in : List Says → List ℕ → Clock
-known_in t g = fold (λ c k. raised c (said t k).known) no_clock g
+known_in t g = fold (λ c k. either_clock c (said t k).known) no_clock g
 
 -- the clock knows an operation
 abbrev pub knows_some : Clock → Bool

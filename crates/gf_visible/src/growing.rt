@@ -127,8 +127,7 @@ pub(crate) fn grown(
         (conflict timeline.now.rows) hiders.now partial.met rest.now most
         (option_map (λ v. v.items) found)) }
 {
-    // The clause of `rows` says that they are rows.
-    let _ = timeline.rows();
+    timeline.recall_rows();
     for class in rest {
         if partial.has_more(most) {
             return Ok(None);

@@ -1,17 +1,15 @@
 //! The largest compatible sets of an object's positions that show, listed unless they are too many.
 
-ghost use Rattle.std.specs.Prelude.{◌≡◌, ◌↔◌, ◌≤◌, ◌<◌, ℕ, length, Contains, IfOk, filter, option_map};
+ghost use Rattle.std.specs.Prelude.{◌≡◌, ◌≤◌, ◌<◌, ℕ, length, Contains, IfOk, filter, option_map};
 ghost use Rattle.std.specs.Prelude.{◌-◌, ◌^◌, true};
 ghost use Rattle.gf_classes.specs.ConflictClasses.{AreClassesOf};
 ghost use Rattle.gf_table.specs.Positions.{positions_on};
 ghost use Rattle.gf_groups.specs.Versions.{IsMade};
-ghost use Rattle.gf_maximal.specs.LargestSets.{IsRising};
 ghost use Rattle.gf_maximal.specs.Rows.{conflict};
 ghost use Rattle.gf_ops.specs.OperationOrder.{IsSite};
 ghost use Rattle.gf_versions.specs.declared.ranking.TheConstants.{MOST_VERSIONS};
 ghost use Rattle.gf_visible.specs.ClassSays.{are_sides, covers, hides, is_other, said};
 ghost use Rattle.gf_visible.specs.ClassListing.{AreHiders, IsLead};
-ghost use Rattle.gf_visible.specs.Seen.{IsCalm, IsSeenPart};
 ghost use Rattle.gf_visible.specs.ShownSets.{IsSetListing, IsShowingListing};
 
 use crate::growing::{Partial, grown, keep_seen};
@@ -40,8 +38,7 @@ fn listed(
         (covers timeline.now.says) (conflict timeline.now.rows) used.now most
         (option_map (λ v. v.items) found)) }
 {
-    // The clause of `rows` says that they are rows.
-    let _ = timeline.rows();
+    timeline.recall_rows();
     let rest = used.without(alloc, partial.met())?.to_vec(alloc)?;
     grown(alloc, timeline, hiders, partial, &rest, most)
 }
@@ -64,8 +61,7 @@ fn by_sides(
         (covers timeline.now.says) (conflict timeline.now.rows) used.now most
         (option_map (λ v. v.items) found)) }
 {
-    // The clause of `rows` says that they are rows.
-    let _ = timeline.rows();
+    timeline.recall_rows();
     let mut sets = Vec::new(alloc);
     sets.push(others.copy(alloc)?)?;
     let sets = keep_seen(alloc, timeline, hiders, sets)?;
@@ -96,8 +92,7 @@ fn by_search(
         (covers timeline.now.says) (conflict timeline.now.rows) used.now most
         (option_map (λ v. v.items) found)) }
 {
-    // The clause of `rows` says that they are rows.
-    let _ = timeline.rows();
+    timeline.recall_rows();
     let classes = used.to_vec(alloc)?;
     let deciding = timeline.deciding(alloc, &classes, hiding)?;
     let found = showing_within(alloc, timeline, &deciding, most + 1)?;
@@ -130,8 +125,7 @@ fn shown_classes(
         (covers timeline.now.says) (conflict timeline.now.rows) used.now most
         (option_map (λ v. v.items) found)) }
 {
-    // The clause of `rows` says that they are rows.
-    let _ = timeline.rows();
+    timeline.recall_rows();
     let classes = used.to_vec(alloc)?;
     let hiders = timeline.hiders(alloc, &classes)?;
     let hiding = set_of(alloc, &hiders)?;

@@ -1,9 +1,9 @@
 //! What the operations of each class say of whether their object shows.
 
 ghost use Rattle.std.specs.Prelude.{◌≡◌, IfOk, Some, map, option_copied, slice_get};
-ghost use Rattle.gf_ops.specs.OperationOrder as order;
 ghost use Rattle.gf_visible.specs.ClassSays.{hides, is_after, knows_some, known_in, no_clock};
-ghost use Rattle.gf_visible.specs.ClassSays.{raised, said, says_of, silent, with_op, with_said};
+ghost use Rattle.gf_visible.specs.ClassSays.{either_clock, said, says_of, silent, with_op};
+ghost use Rattle.gf_visible.specs.ClassSays.{with_said};
 
 use gf_base::OutOfMemory;
 use gf_classes::shown_by;
@@ -41,8 +41,8 @@ fn silent() -> Says
 }
 
 /// What either clock knows.
-fn raised(clock: Clock, other: Clock) -> Clock
-    ensures { result ≡ raised clock other }
+fn either_clock(clock: Clock, other: Clock) -> Clock
+    ensures { result ≡ either_clock clock other }
 {
     Clock([
         clock.0[0].max(other.0[0]),
@@ -64,7 +64,7 @@ fn with_said(says: Says, op: &Op) -> Says
         Some(true) => Says {
             site: says.site,
             last: says.last,
-            known: raised(says.known, op.past),
+            known: either_clock(says.known, op.past),
         },
         Some(false) => Says {
             site: op.id.site,
@@ -136,21 +136,11 @@ pub(crate) fn hides(all: &[Says], class: usize) -> bool
     0 < said(all, class).last
 }
 
-/// The entry of a site.
-fn entry(clock: Clock, site: u8) -> u32
-    ensures { result ≡ order.entry clock site }
-{
-    match clock.0.get(usize::from(site).saturating_sub(1)) {
-        Some(number) => *number,
-        None => 0,
-    }
-}
-
 /// Whether an operation under this clock comes after all that hides, where some does.
 pub(crate) fn is_after(says: Says, clock: Clock) -> bool
     ensures { result ≡ is_after says clock }
 {
-    0 < says.last && says.last <= entry(clock, says.site)
+    0 < says.last && says.last <= clock.entry(says.site)
 }
 
 /// What the showings of these classes know.
@@ -159,7 +149,7 @@ pub(crate) fn known_in(all: &[Says], classes: &[usize]) -> Clock
 {
     let mut known = no_clock();
     for class in classes {
-        known = raised(known, said(all, *class).known);
+        known = either_clock(known, said(all, *class).known);
     }
     known
 }

@@ -4,7 +4,7 @@ ghost use Rattle.std.specs.Prelude.{◌≡◌, ◌<◌, ◌≤◌, ◌+◌, ◌-
 ghost use Rattle.gf_visible.specs.Choices.{all_hold, answers};
 ghost use Rattle.gf_visible.specs.PendingChoices.{all_answers, weight, weight_of};
 
-use crate::step::Step;
+use crate::step::ChoiceStep;
 use gf_base::OutOfMemory;
 use gf_maximal::Numbers;
 use std::alloc::Global;
@@ -26,14 +26,14 @@ impl Model for Choice {
 }
 
 /// Whether each step may hold with what is possible.
-fn all_hold(steps: &[Step], possible: &Numbers) -> bool
+fn all_hold(steps: &[ChoiceStep], possible: &Numbers) -> bool
     ensures { result ≡ all_hold steps.now possible.now }
 {
     steps.iter().all(|step| step.holds(possible))
 }
 
 /// Puts a choice behind those that are left, if it may hold.
-fn leave(steps: &[Step], choice: Choice, left: &mut Vec<Choice>) -> Result<(), OutOfMemory>
+fn leave(steps: &[ChoiceStep], choice: Choice, left: &mut Vec<Choice>) -> Result<(), OutOfMemory>
     ensures leads { OnOk result (all_answers steps.now left.new.items
         ≡ answers steps.now (drop choice.at steps.now) choice.possible
         ++ all_answers steps.now left.old.items) }
@@ -50,7 +50,7 @@ fn leave(steps: &[Step], choice: Choice, left: &mut Vec<Choice>) -> Result<(), O
 /// second way is a choice that is left.
 fn follow(
     alloc: Global,
-    steps: &[Step],
+    steps: &[ChoiceStep],
     next: Choice,
     left: &mut Vec<Choice>,
     found: &mut Vec<Numbers>,
@@ -92,7 +92,7 @@ fn follow(
 /// Each position that may be taken both ways leaves a choice: its step, and a set of positions.
 pub(crate) fn search(
     alloc: Global,
-    steps: &[Step],
+    steps: &[ChoiceStep],
     possible: Numbers,
     limit: usize,
 ) -> Result<Vec<Numbers>, OutOfMemory>

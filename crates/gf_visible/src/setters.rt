@@ -1,7 +1,7 @@
 //! The sets that show, of positions that are asked only for what they say of each other.
 
 ghost use Rattle.std.specs.Prelude.{◌≡◌, ◌<◌, ◌+◌, ◌^◌, ◌∷◌, [], ℕ, Bool, All};
-ghost use Rattle.std.specs.Prelude.{IfOk, OnOk, cond, filter, map, not, take};
+ghost use Rattle.std.specs.Prelude.{IfOk, cond, filter, take};
 ghost use Rattle.std.specs.Fn.{CalledAt};
 ghost use Rattle.std.specs.List.Retain.{IsFiltered};
 ghost use Rattle.std.specs.List.Sorted.{IsStrictlySortedBy};
@@ -9,7 +9,7 @@ ghost use Rattle.std.specs.Ordering.{nat_cmp};
 ghost use Rattle.gf_visible.specs.Choices.{hiding_first, showing, step_of, steps_of};
 
 use crate::searching::search;
-use crate::step::Step;
+use crate::step::ChoiceStep;
 use gf_base::OutOfMemory;
 use gf_maximal::Numbers;
 use std::alloc::Global;
@@ -130,7 +130,7 @@ fn step_of<T: Showing>(
     setters: &T,
     positions: &[usize],
     position: usize,
-) -> Result<Step, OutOfMemory>
+) -> Result<ChoiceStep, OutOfMemory>
     requires fits { position + 1 < 2 ^ 64 }
     requires rising { IsStrictlySortedBy nat_cmp positions.now }
     requires bounded { All (λ n. n + 1 < 2 ^ 64) positions.now }
@@ -140,7 +140,7 @@ fn step_of<T: Showing>(
     let own = alone(alloc, position)?;
     let covers = asked_of(alloc, setters, positions, position)?;
     let rivals = rivals_of(alloc, setters, positions, position)?;
-    Ok(Step::new(own, setters.hides(position), covers, rivals))
+    Ok(ChoiceStep::new(own, setters.hides(position), covers, rivals))
 }
 
 /// The positions that hide.
@@ -183,7 +183,7 @@ fn steps_of<T: Showing>(
     alloc: Global,
     setters: &T,
     positions: &[usize],
-) -> Result<Vec<Step>, OutOfMemory>
+) -> Result<Vec<ChoiceStep>, OutOfMemory>
     requires rising { IsStrictlySortedBy nat_cmp positions.now }
     requires bounded { All (λ n. n + 1 < 2 ^ 64) positions.now }
     ensures { IfOk result (λ steps. steps.items ≡ steps_of (T.hides setters.now)

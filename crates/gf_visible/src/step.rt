@@ -11,14 +11,14 @@ use std::marker::Model;
 
 /// One position, and the other positions that matter to it.
 #[derive(Drop)]
-pub(crate) struct Step {
+pub(crate) struct ChoiceStep {
     own: Numbers,
     hides: bool,
     covers: Numbers,
     rivals: Numbers,
 }
 
-impl Model for Step {
+impl Model for ChoiceStep {
     ghost use Rattle.gf_visible.specs.Choices.{StepState};
 
     ghost Value = { StepState };
@@ -27,12 +27,12 @@ impl Model for Step {
         record { own = s.own; hides = s.hides; covers = s.covers; rivals = s.rivals } };
 }
 
-impl Step {
+impl ChoiceStep {
     /// The position alone, whether it hides, what covers it, and its rivals.
-    pub(crate) fn new(own: Numbers, hides: bool, covers: Numbers, rivals: Numbers) -> Step
+    pub(crate) fn new(own: Numbers, hides: bool, covers: Numbers, rivals: Numbers) -> ChoiceStep
         ensures { result ≡ record { own = own; hides = hides; covers = covers; rivals = rivals } }
     {
-        Step {
+        ChoiceStep {
             own,
             hides,
             covers,

@@ -1,6 +1,7 @@
 //! Classes with what they say, asked for what they do to each other.
 
-ghost use Rattle.std.specs.Prelude.{◌≡◌, ◌+◌, ◌^◌, ◌<◌, ◌||◌, ℕ, All, Contains, IfOk, filter, not};
+ghost use Rattle.std.specs.Prelude.{◌≡◌, ◌+◌, ◌^◌, ◌<◌, ◌||◌, ℕ, All, Contains, IfOk};
+ghost use Rattle.std.specs.Prelude.{filter, length, not};
 ghost use Rattle.gf_ops.specs.OperationOrder.{IsSite};
 ghost use Rattle.std.specs.List.{list_all};
 ghost use Rattle.gf_maximal.specs.Growing.{intersects};
@@ -50,6 +51,15 @@ impl<'a> Timeline<'a> {
         ensures known { AreRows self.now.rows }
     {
         self.rows
+    }
+
+    /// Recalls that the rows agree with each other, and how many there are at most. A caller takes
+    /// no more of the call than its clauses.
+    pub(crate) fn recall_rows(&self)
+        ensures known { AreRows self.now.rows }
+        ensures few { length self.now.rows < 2 ^ 64 }
+    {
+        let _ = self.rows();
     }
 
     /// Whether the class conflicts with one of these.

@@ -13,7 +13,8 @@ pub returns-then-has_more : goal.returns-then-has_more
 returns-then-has_more c =
     let t : TimelineState = c.args.timeline.now in
     let rest = c.args.rest.now in
-    more_met (covers t.says) t.rows c.rows.ensures.known c.args.hiders.now c.args.partial.met rest
+    more_met (covers t.says) t.rows c.recall_rows.ensures.known c.args.hiders.now c.args.partial.met
+    rest
     (length t.rows) c.requires.rest c.loop-class.partial.met (drop c.loop-class.class-index rest)
     c.loop-class.partial.sets c.args.most c.loop-class.invariant
     (c.has_more.ensures.0 c.if-has_more.true)
@@ -22,7 +23,8 @@ pub returns-then-has_more-2 : goal.returns-then-has_more-2
 returns-then-has_more-2 c =
     let t : TimelineState = c.args.timeline.now in
     let rest = c.args.rest.now in
-    more_met (covers t.says) t.rows c.rows.ensures.known c.args.hiders.now c.args.partial.met rest
+    more_met (covers t.says) t.rows c.recall_rows.ensures.known c.args.hiders.now c.args.partial.met
+    rest
     (length t.rows) c.requires.rest c.loop-class.partial.met (drop c.loop-class.class-index rest)
     c.loop-class.partial.sets c.args.most c.loop-class.invariant
     (c.has_more-2.ensures.0 c.if-has_more-2.true)
@@ -52,7 +54,8 @@ loop-class-preserved c =
     let sets = c.loop-class.partial.sets in
     subst (λ (p : PartialState). AreMet (covers t.says) (conflict t.rows) c.args.hiders.now
     c.args.partial.met rest p.met (drop (i + 1) rest) p.sets) (sym c.in_ok-partial.ensures)
-    (next_met (covers t.says) t.rows c.rows.ensures.known c.args.hiders.now c.args.partial.met rest
+    (next_met (covers t.says) t.rows c.recall_rows.ensures.known c.args.hiders.now
+    c.args.partial.met rest
     (length t.rows) c.requires.rest met (drop i rest) (get_or rest i 0) (drop (i + 1) rest) sets
     (drop_next rest i 0 c.loop-class-test.true) c.loop-class.invariant)
 
@@ -71,7 +74,8 @@ returns c =
     ] in
     subst (λ z. IsPartOf (covers t.says) (conflict t.rows) c.args.hiders.now c.args.partial.met rest z
     × (length z ≤ c.args.most)) (sym c.into_sets.ensures) (
-      all_met (covers t.says) t.rows c.rows.ensures.known c.args.hiders.now c.args.partial.met rest
+      all_met (covers t.says) t.rows c.recall_rows.ensures.known c.args.hiders.now
+          c.args.partial.met rest
           (length t.rows) c.requires.rest met sets done,
       few,
     )

@@ -10,7 +10,7 @@ use Rattle.gf_visible.proofs.listing.by_search.Goals as goal
 pub deciding-requires : goal.deciding-requires
 deciding-requires c =
     let t : TimelineState = c.args.timeline.now in
-    let fits : length t.rows < 18446744073709551616 = rw c.rows.ensures.rows at c.rows.type_inv.0 in
+    let fits : length t.rows < 18446744073709551616 = c.recall_rows.ensures.few in
     fitting (length t.rows) 18446744073709551616 fits c.deref.result.now
     (λ a i. c.requires.hiders.below a (subst (λ z. Contains z a)
     (c.deref.ensures.value ∙ c.in_ok-classes.ensures.value) i))
@@ -24,7 +24,7 @@ showing_within-requires-clause-rising c =
     ∙ (ap (λ z. filter (is_deciding t.rows t.says z) c.deref.result.now) c.requires.hiding
     ∙ ap (filter (is_deciding t.rows t.says hs))
     (c.deref.ensures.value ∙ c.in_ok-classes.ensures.value)) in
-    deciding_rise t c.rows.ensures.known used hs c.requires.hiders c.deref-2.result.now
+    deciding_rise t c.recall_rows.ensures.known used hs c.requires.hiders c.deref-2.result.now
     (c.deref-2.ensures.value ∙ is) c.requires.hidden
 
 pub showing_within-requires-clause-bounded : goal.showing_within-requires-clause-bounded
@@ -36,9 +36,9 @@ showing_within-requires-clause-bounded c =
     ∙ (ap (λ z. filter (is_deciding t.rows t.says z) c.deref.result.now) c.requires.hiding
     ∙ ap (filter (is_deciding t.rows t.says hs))
     (c.deref.ensures.value ∙ c.in_ok-classes.ensures.value)) in
-    let fits : length t.rows < 18446744073709551616 = rw c.rows.ensures.rows at c.rows.type_inv.0 in
+    let fits : length t.rows < 18446744073709551616 = c.recall_rows.ensures.few in
     fitting (length t.rows) 18446744073709551616 fits c.deref-2.result.now
-    (λ a i. c.requires.hiders.below a (deciding_within t c.rows.ensures.known used hs
+    (λ a i. c.requires.hiders.below a (deciding_within t c.recall_rows.ensures.known used hs
     c.requires.hiders c.deref-2.result.now (c.deref-2.ensures.value ∙ is) c.requires.hidden a i))
 
 pub returns-then-len-most : goal.returns-then-len-most
@@ -50,7 +50,7 @@ returns-then-len-most c =
     ∙ (ap (λ z. filter (is_deciding t.rows t.says z) c.deref.result.now) c.requires.hiding
     ∙ ap (filter (is_deciding t.rows t.says hs))
     (c.deref.ensures.value ∙ c.in_ok-classes.ensures.value)) in
-    search_more t c.rows.ensures.known used hs c.requires.hiders c.deref-2.result.now
+    search_more t c.recall_rows.ensures.known used hs c.requires.hiders c.deref-2.result.now
     (c.deref-2.ensures.value ∙ is) c.requires.hidden c.args.most c.in_ok-found.found.items
     c.in_ok-found.ensures (search rules)
 
@@ -63,7 +63,7 @@ set_of-requires-clause-rising c =
     ∙ (ap (λ z. filter (is_deciding t.rows t.says z) c.deref.result.now) c.requires.hiding
     ∙ ap (filter (is_deciding t.rows t.says hs))
     (c.deref.ensures.value ∙ c.in_ok-classes.ensures.value)) in
-    deciding_rise t c.rows.ensures.known used hs c.requires.hiders c.deref-3.result.now
+    deciding_rise t c.recall_rows.ensures.known used hs c.requires.hiders c.deref-3.result.now
     (c.deref-3.ensures.value ∙ is) c.requires.hidden
 
 pub set_of-requires-clause-bounded : goal.set_of-requires-clause-bounded
@@ -75,9 +75,9 @@ set_of-requires-clause-bounded c =
     ∙ (ap (λ z. filter (is_deciding t.rows t.says z) c.deref.result.now) c.requires.hiding
     ∙ ap (filter (is_deciding t.rows t.says hs))
     (c.deref.ensures.value ∙ c.in_ok-classes.ensures.value)) in
-    let fits : length t.rows < 18446744073709551616 = rw c.rows.ensures.rows at c.rows.type_inv.0 in
+    let fits : length t.rows < 18446744073709551616 = c.recall_rows.ensures.few in
     fitting (length t.rows) 18446744073709551616 fits c.deref-3.result.now
-    (λ a i. c.requires.hiders.below a (deciding_within t c.rows.ensures.known used hs
+    (λ a i. c.requires.hiders.below a (deciding_within t c.recall_rows.ensures.known used hs
     c.requires.hiders c.deref-3.result.now (c.deref-3.ensures.value ∙ is) c.requires.hidden a i))
 
 pub listed-requires-clause-lead : goal.listed-requires-clause-lead
@@ -90,7 +90,7 @@ listed-requires-clause-lead c =
     ∙ ap (filter (is_deciding t.rows t.says hs))
     (c.deref.ensures.value ∙ c.in_ok-classes.ensures.value)) in
     let ds = c.deref-2.result.now in
-    let lead = search_lead t c.rows.ensures.known used hs c.requires.hiders ds
+    let lead = search_lead t c.recall_rows.ensures.known used hs c.requires.hiders ds
     (c.deref-2.ensures.value ∙ is) c.requires.hidden c.args.most c.in_ok-found.found.items
     c.in_ok-found.ensures (search rules) in
     let met = c.in_ok-met.ensures ∙ (c.deref-3.ensures.value ∙ sym c.deref-2.ensures.value) in

@@ -14,6 +14,7 @@ listed-requires-clause-lead c =
     let one = c.in_ok-push.ensures.items ∙ (ap (λ z. z ++ c.in_ok-copy.field-0 ∷ [])
     c.new-sets.ensures.items ∙ ap (λ z. z ∷ []) c.in_ok-copy.ensures) in
     subst (λ (p : PartialState). IsLead t used hs p.met p.sets) (sym c.new.ensures)
-    (lead_of_sides t c.rows.ensures.known used hs c.requires.hiders c.args.others c.requires.others
+    (lead_of_sides t c.recall_rows.ensures.known used hs c.requires.hiders c.args.others
+    c.requires.others
     c.requires.sides c.in_ok-sets.sets.items (c.in_ok-sets.ensures
     ∙ ap (filter (seen (covers t.says) (conflict t.rows) hs)) one))

@@ -11,7 +11,8 @@ grown-requires-clause-rest c =
     let used = c.args.used.now in
     let rest = c.deref.ensures.value ∙ (c.in_ok-rest.ensures.value ∙ (c.in_ok-without.ensures
     ∙ ap (λ z. without z used) c.met.ensures)) in
-    rest_may c.args.timeline.now c.rows.ensures.known used c.args.hiders.now c.requires.hiders
+    rest_may c.args.timeline.now c.recall_rows.ensures.known used c.args.hiders.now
+    c.requires.hiders
     c.args.partial.met c.args.partial.sets c.requires.lead c.deref.result.now rest
     (subst IsRising (sym c.deref.ensures.value) c.in_ok-rest.ensures.rising)
 
@@ -21,6 +22,7 @@ returns c =
     let rest = c.deref.ensures.value ∙ (c.in_ok-rest.ensures.value ∙ (c.in_ok-without.ensures
     ∙ ap (λ z. without z used) c.met.ensures)) in
     IfOk-weaker c.grown.result _ _ (λ found w.
-    listing_told c.args.timeline.now c.rows.ensures.known used c.args.hiders.now c.requires.hiders
+    listing_told c.args.timeline.now c.recall_rows.ensures.known used c.args.hiders.now
+    c.requires.hiders
     c.args.partial.met c.args.partial.sets c.requires.lead c.deref.result.now rest c.args.most
     (option_map (λ v. v.items) found) w) c.grown.ensures

@@ -20,7 +20,7 @@ set_of-requires-clause-bounded c =
     let used = c.args.used.now in
     let at = c.deref.ensures.value ∙ c.in_ok-classes.ensures.value in
     let hidden = c.in_ok-hiders.ensures ∙ ap (filter (hides t.says)) at in
-    let fits : length t.rows < 18446744073709551616 = rw c.rows.ensures.rows at c.rows.type_inv.0 in
+    let fits : length t.rows < 18446744073709551616 = c.recall_rows.ensures.few in
     fitting (length t.rows) 18446744073709551616 fits c.deref-2.result.now
     (λ a i. c.requires.below a (some_within (hides t.says) used c.deref-2.result.now
     (c.deref-2.ensures.value ∙ hidden) a i))
@@ -29,7 +29,7 @@ pub others-requires : goal.others-requires
 others-requires c =
     let t : TimelineState = c.args.timeline.now in
     let used = c.args.used.now in
-    let fits : length t.rows < 18446744073709551616 = rw c.rows.ensures.rows at c.rows.type_inv.0 in
+    let fits : length t.rows < 18446744073709551616 = c.recall_rows.ensures.few in
     fitting (length t.rows) 18446744073709551616 fits c.deref-3.result.now
     (λ a i. c.requires.below a (subst (λ z. Contains z a)
     (c.deref-3.ensures.value ∙ c.in_ok-classes.ensures.value) i))
@@ -48,7 +48,7 @@ pub set_of-requires-2-clause-bounded : goal.set_of-requires-2-clause-bounded
 set_of-requires-2-clause-bounded c =
     let t : TimelineState = c.args.timeline.now in
     let used = c.args.used.now in
-    let fits : length t.rows < 18446744073709551616 = rw c.rows.ensures.rows at c.rows.type_inv.0 in
+    let fits : length t.rows < 18446744073709551616 = c.recall_rows.ensures.few in
     let at = c.deref-3.ensures.value ∙ c.in_ok-classes.ensures.value in
     let is = c.deref-4.ensures.value ∙ (c.in_ok-others.ensures
     ∙ ap (filter (is_other t.rows t.says c.in_ok-hiding.hiding)) at) in

@@ -1,0 +1,4 @@
+pub mod SameOnLemmas
+pub mod PlacedLemmas
+pub mod KeepingLemmas
+pub mod GatheredLemmas

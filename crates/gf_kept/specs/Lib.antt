@@ -1,0 +1,3 @@
+pub mod SameOn
+pub mod Keeping
+pub mod Gathered
