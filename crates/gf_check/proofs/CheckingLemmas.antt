@@ -31,7 +31,7 @@ use Rattle.gf_check.specs.declared.telling.Telling.{Telling}
 use Rattle.gf_check.specs.FaultLines.{Told, errors, told_text}
 use Rattle.gf_check.specs.CheckedText.{RefusesChecked}
 use Rattle.gf_check.specs.TrueFaults.{Clashes, HasLineError, IsDenotedBy, IsTrueOf}
-use Rattle.gf_check.specs.AllFaults.{AnswersText, AreKept, HasOneById, IsFaultOf, KeepsOrTells}
+use Rattle.gf_check.specs.AllFaults.{AnswersText, KeepsUntold, HasOneById, IsFaultOf, KeepsOrTells}
 use Rattle.gf_check.specs.AllFaults.{RisesTo, TellsEach, TellsOnLines, TellsOp}
 use Rattle.gf_check.specs.AllFaults.{TellsTrue, faults, nothing}
 use Rattle.gf_check.specs.Telling.{HasTold, TellsOne}
@@ -351,7 +351,7 @@ told_all : (editor : Option ℕ) (bytes : List ℕ) (x : ReplicaState) (text : L
     (told : List Told)
     → text ≡ told_text told → BeginsWith (HasRead editor bytes [] x) editor bytes told
     → TellsEach editor (numbered_lines bytes) told →
-    AreKept editor (numbered_lines bytes) told → TellsTrue editor (numbered_lines bytes) told
+    KeepsUntold editor (numbered_lines bytes) told → TellsTrue editor (numbered_lines bytes) told
     → AreInOrder told → TellsOnLines told → AnswersText editor bytes text
 told_all editor bytes x text [] is read each kept only order plain = nothing is
     (DenotesSome-read editor bytes x read)
@@ -376,7 +376,7 @@ checked_all editor bytes x t valid all =
     let whole = sym (h.whole ∙ append-nil h.before) in
     told_all editor bytes x t.text.items h.told h.is.text h.first
     (subst (λ lines. TellsEach editor lines h.told) whole h.each)
-    (subst (λ lines. AreKept editor lines h.told) whole
+    (subst (λ lines. KeepsUntold editor lines h.told) whole
     (record {
       replica = x;
       valid = valid;

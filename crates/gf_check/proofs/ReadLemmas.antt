@@ -55,7 +55,7 @@ HasRead-none None bytes = record {
   whole = refl;
   ops = [];
   lines = refl;
-  taken = edit.none_taken;
+  taken = replay.none_taken;
   none = λ a i r. not_Contains-nil a i;
 }
 HasRead-none (Some s) bytes = edit.HasRead-none s bytes (numbered_lines bytes) new_replica refl refl
@@ -65,7 +65,7 @@ pub DenotesSome-read : (editor : Option ℕ) (bytes : List ℕ) (x : ReplicaStat
     → HasRead editor bytes [] x → DenotesSome editor bytes
 DenotesSome-read None bytes x read = record {
   history = x.ops;
-  denoted = replay.Denotes-read bytes x read;
+  denoted = replay.Denotes-read bytes x (replay.DeliversLines-read [] bytes x read);
 }
 DenotesSome-read (Some s) bytes x read = record {
   entries = read.entries;
@@ -80,7 +80,7 @@ module _ (bytes : List ℕ) (n : ℕ) (text : List ℕ) (left : List (ℕ × Lis
     pub HasRead-op : (editor : Option ℕ) → HasRead editor bytes ((n, text) ∷ left) x → (a : Op)
         → denoted_by editor text ≡ Ok (entry.Operation a) → (y : ReplicaState) → TakesOp a x y
         → HasRead editor bytes left y
-    HasRead-op None read a d y takes = replay.HasRead-op bytes n text left x read a
+    HasRead-op None read a d y takes = replay.HasRead-op [] bytes n text left x read a
         (is_op (denoted text) a (sym (alone (denoted text)) ∙ d)) y takes
     HasRead-op (Some s) read a d y takes = edit.HasRead-op s bytes n text left x read a d y takes
 
@@ -96,7 +96,7 @@ module _ (bytes : List ℕ) (n : ℕ) (text : List ℕ) (left : List (ℕ × Lis
     pub Refuses-op : (editor : Option ℕ) → HasRead editor bytes ((n, text) ∷ left) x → (a : Op)
         → denoted_by editor text ≡ Ok (entry.Operation a) → (e : ReadingError) → RefusesOp n a x e
         → RefusesChecked editor bytes e
-    Refuses-op None read a d e r = replay.RefusesText-op bytes n text left x read a
+    Refuses-op None read a d e r = replay.RefusesText-op [] bytes n text left x read a
         (is_op (denoted text) a (sym (alone (denoted text)) ∙ d)) e r
     Refuses-op (Some s) read a d e r = edit.RefusesEntries-op s bytes n text left x read a d e r
 
@@ -104,6 +104,6 @@ module _ (bytes : List ℕ) (n : ℕ) (text : List ℕ) (left : List (ℕ × Lis
     pub Refuses-fault : (editor : Option ℕ) → HasRead editor bytes ((n, text) ∷ left) x
         → (f : LineError) → denoted_by editor text ≡ Err f
         → RefusesChecked editor bytes (of_line n f)
-    Refuses-fault None read f d = replay.RefusesText-fault bytes n text left x read f
+    Refuses-fault None read f d = replay.RefusesText-fault [] bytes n text left x read f
         (is_fault (denoted text) f (sym (alone (denoted text)) ∙ d))
     Refuses-fault (Some s) read f d = edit.RefusesEntries-fault s bytes n text left x read f d

@@ -55,7 +55,7 @@ HasOneById x = (a b : Op) → HasOrHolds x a → HasOrHolds x b → a.id ≡ b.i
 
 -- the operations that are not told: a replica has them in a valid history, or holds them until they
 -- are ready. It has and holds only what a line denotes
-pub record AreKept (editor : Option ℕ) (lines : List (ℕ × List ℕ)) (told : List Told)
+pub record KeepsUntold (editor : Option ℕ) (lines : List (ℕ × List ℕ)) (told : List Told)
     : Type 0 where
   pub replica : ReplicaState
   pub valid : IsValid replica.ops
@@ -95,7 +95,7 @@ pub record TellsFaults (editor : Option ℕ) (bytes text : List ℕ) : Type 0 wh
   pub is : text ≡ told_text (first ∷ others)
   pub refuses : IsFaultOf editor bytes first.error
   pub each : TellsEach editor (numbered_lines bytes) (first ∷ others)
-  pub kept : AreKept editor (numbered_lines bytes) (first ∷ others)
+  pub kept : KeepsUntold editor (numbered_lines bytes) (first ∷ others)
   pub only : TellsTrue editor (numbered_lines bytes) (first ∷ others)
   pub rises : TellsRising (first ∷ others)
   pub once : TellsOnceEach (first ∷ others)

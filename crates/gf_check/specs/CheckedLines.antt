@@ -20,7 +20,7 @@ use Rattle.gf_check.specs.Telling.{HasTold}
 
 -- the lines before those that are left were taken without a fault, and no held one is ready
 abbrev pub HasRead : Option ℕ → List ℕ → List (ℕ × List ℕ) → ReplicaState → Type 0
-HasRead None bytes left x = replay.HasRead bytes left x
+HasRead None bytes left x = replay.HasRead [] bytes left x
 HasRead (Some s) bytes left x = HasReadEntries s bytes left x
 
 -- the same of all lines before one. The operation of this one was then offered, and the replica x

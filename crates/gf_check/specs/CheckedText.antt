@@ -1,5 +1,5 @@
 -- What a text denotes: operations, and commands where a site edits (this project's choice).
-use Rattle.std.specs.Prelude.{ℕ, List, Option, None, Some}
+use Rattle.std.specs.Prelude.{ℕ, List, [], Option, None, Some}
 use Rattle.gf_streams.specs.TextLines.{numbered_lines}
 use Rattle.gf_ops.specs.declared.op.Op.{Op}
 use Rattle.gf_replay.specs.declared.reading_error.ReadingError.{ReadingError}
@@ -28,5 +28,5 @@ DenotesSome (Some s) bytes = DenotesEntries s bytes
 
 -- why the bytes denote no history; want of memory may come with any
 abbrev pub RefusesChecked : Option ℕ → List ℕ → ReadingError → Type 0
-RefusesChecked None bytes e = RefusesText bytes e
+RefusesChecked None bytes e = RefusesText [] bytes e
 RefusesChecked (Some s) bytes e = RefusesEntries s bytes e

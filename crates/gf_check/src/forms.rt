@@ -147,16 +147,12 @@ fn are_rising(value: &Value) -> bool {
         let Some(next) = pair(value) else {
             return false;
         };
-        if index > 0 && !is_less(last, next) {
+        if index > 0 && next <= last {
             return false;
         }
         last = next;
     }
     true
-}
-
-fn is_less(first: (i64, i64), second: (i64, i64)) -> bool {
-    first.0 < second.0 || first.0 == second.0 && first.1 < second.1
 }
 
 /// The elements of a list.

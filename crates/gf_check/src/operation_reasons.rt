@@ -2,7 +2,7 @@
 
 use crate::reasons::OperationReason;
 use crate::seen::SeenLine;
-use gf_ops::{Attr, Change, Clock, Form, History, ObjectId, Op, OpFault, OpId, Start, Value};
+use gf_ops::{Attr, Change, Form, History, ObjectId, Op, OpFault, OpId, Start, Value};
 
 /// What is wrong with an operation that was refused behind a history for this fault.
 pub(crate) fn operation_reason(history: &History, op: &Op, fault: OpFault) -> OperationReason {
@@ -21,24 +21,16 @@ pub(crate) fn clash_reason(seen: &SeenLine, op: &Op) -> OperationReason {
 
 // ---- clocks
 
-fn entry(clock: &Clock, site: u8) -> u32 {
-    if 1 <= site && site <= 8 {
-        clock.0[usize::from(site) - 1]
-    } else {
-        0
-    }
-}
-
 /// The wrong entry of the operation's own site, or the first entry less than that of a counted
 /// operation.
 fn clock_reason(history: &History, op: &Op) -> OperationReason {
-    let own = entry(&op.past, op.id.site);
+    let own = op.past.entry(op.id.site);
     let before = op.id.seq.saturating_sub(1);
     if own != before {
         return OperationReason::OwnCount(own, before);
     }
     for site in 1..9 {
-        let seq = entry(&op.past, site);
+        let seq = op.past.entry(site);
         if let Some(last) = history.get(OpId { site, seq }) {
             if let Some(reason) = behind_reason(last, op) {
                 return reason;
@@ -51,8 +43,8 @@ fn clock_reason(history: &History, op: &Op) -> OperationReason {
 /// The first entry that is less than that of an operation.
 fn behind_reason(last: &Op, op: &Op) -> Option<OperationReason> {
     for site in 1..9 {
-        let count = entry(&op.past, site);
-        let had = entry(&last.past, site);
+        let count = op.past.entry(site);
+        let had = last.past.entry(site);
         if count < had {
             return Some(OperationReason::FallsBehind(count, site, last.id, had));
         }
@@ -125,7 +117,7 @@ fn member_reason(history: &History, op: &Op, id: OpId) -> Option<OperationReason
     let Some(member) = history.get(id) else {
         return Some(OperationReason::AimNotCounted(id));
     };
-    if entry(&op.past, id.site) < id.seq {
+    if op.past.entry(id.site) < id.seq {
         return Some(OperationReason::AimNotCounted(id));
     }
     if member.object() != op.object() {

@@ -31,7 +31,8 @@ impl JsonReason {
                 "more behind the first object: an LF is missing between two lines?"
             }
             JsonReason::BeginsWithin => {
-                "a second object begins within the first: two files joined, of which the first lacks the end of its last line?"
+                "a second object begins within the first: two files joined, of which the first \
+                    lacks the end of its last line?"
             }
             JsonReason::DoesNotEnd => "one object a line: this one does not end here",
             JsonReason::NoValue => "this is no JSON value",

@@ -9,7 +9,6 @@ use Rattle.gf_streams.specs.TextLines.{numbered_lines}
 use Rattle.gf_ops.specs.declared.op.Op.{Op}
 use Rattle.gf_ops.specs.declared.op.OpId.{OpId}
 use Rattle.gf_ops.specs.declared.faults.OpFault.{OpFault}
-use Rattle.gf_ops.specs.Accepted.{none as none_accepted}
 use Rattle.gf_base.proofs.ListLemmas.{not_Contains-nil}
 use Rattle.gf_causal.specs.Ready.{NoneIsReady}
 use Rattle.gf_site.specs.ReplicaState.{ReplicaState, new_replica}
@@ -22,9 +21,9 @@ use Rattle.gf_replay.specs.declared.reading_error.ReadingError.{ReadingError}
 use Rattle.gf_replay.specs.declared.reading_error.ReadingError.TheVariants as reading
 use Rattle.gf_replay.specs.Taking.{DropsBehind, HasTaken, RefusesOp, TakesOp, of_line}
 use Rattle.gf_replay.proofs.GotLemmas.{denotes_read, fault_read}
+use Rattle.gf_replay.proofs.ReadingLemmas.{none_taken}
 use Rattle.gf_replay.proofs.TakingLemmas.{HasTaken-moves, HasTaken-offer, delivers, other_taken}
 use Rattle.gf_replay.proofs.TakingLemmas.{taken_delivery}
-use Rattle.gf_site.proofs.ValidLemmas.{valid_nil}
 use Rattle.gf_edit.specs.declared.edit_command.EditCommand.{EditCommand}
 use Rattle.gf_edit.specs.declared.entries.Entry.{Entry}
 use Rattle.gf_edit.specs.declared.entries.Entry.TheVariants as entry
@@ -37,19 +36,6 @@ use Rattle.gf_edit.specs.EditFaults.{DropsAt, HasLineFault, IsAtLine, IsEntryFau
 use Rattle.gf_edit.specs.EntrySteps.{HasReadEntries, HasReadLines}
 
 -- ---- before the first line and behind the last
-
--- a new replica has taken nothing
-pub none_taken : HasTaken [] new_replica
-none_taken = record {
-  one = λ a b i j e. absurd (not_Contains-nil a i);
-  all = λ a. (
-    λ i. absurd (not_Contains-nil a i),
-    λ i. elim i [ inl j ↦ absurd (not_Contains-nil a j) | inr j ↦ absurd (not_Contains-nil a j) ],
-  );
-  others = λ a i. absurd (not_Contains-nil a i);
-  accepted = none_accepted;
-  valid = valid_nil;
-}
 
 -- before the first line nothing was taken
 abbrev pub HasRead-none : (s : ℕ) (bytes : List ℕ) (left : List (ℕ × List ℕ)) (x : ReplicaState)

@@ -1,7 +1,7 @@
 //! What a site makes of its commands.
 
 ghost use Rattle.std.specs.Prelude.{◌≡◌, ◌++◌, [], true, false, Ok, Some, IfOk, IfErr, OnOk};
-ghost use Rattle.gf_ops.specs.Limits.{IsInRange, is_id};
+ghost use Rattle.gf_ops.specs.Limits.{IsInRange};
 ghost use Rattle.gf_causal.specs.HeldOperations.{IsFree};
 ghost use Rattle.gf_edit.specs.declared.edit_command.EditCommand.{EditCommand};
 ghost use Rattle.gf_json.specs.OperationLines.{denoted};
@@ -159,7 +159,7 @@ pub fn push_line(alloc: Global, text: &mut Vec<u8>, op: &Op) -> Result<(), OutOf
 fn refusal(site: &Site, id: OpId) -> Option<Cause>
     ensures { AwaitAnswer site.now.number site.now.ops [] id result }
 {
-    if !is_id(id) {
+    if !id.in_range() {
         return Some(Cause::Range);
     }
     if id.site == site.number() {
@@ -170,13 +170,6 @@ fn refusal(site: &Site, id: OpId) -> Option<Cause>
     } else {
         Some(Cause::NeverComes)
     }
-}
-
-/// Whether the id names one of the first 10,000 operations of a site.
-fn is_id(id: OpId) -> bool
-    ensures { result ≡ is_id id }
-{
-    (1..=8).contains(&id.site) && 1 <= id.seq && id.seq <= 10_000
 }
 
 fn has(history: &History, id: OpId) -> bool

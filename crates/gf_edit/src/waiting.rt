@@ -1,14 +1,13 @@
 //! What blocks a site: an operation that waits, by which the next number of the site is not known.
 
 ghost use Rattle.std.specs.Prelude.{◌≡◌, OnOk, IfErr, find, map, option_map};
-ghost use Rattle.gf_ops.specs.OperationOrder.{entry};
 ghost use Rattle.gf_edit.specs.EntrySteps.{IsUnblocked, RefusesWaiting};
 ghost use Rattle.gf_edit.specs.Waiting.{is_blocking};
 
 use crate::EditError;
 use gf_base::OutOfMemory;
 use gf_causal::waits_for;
-use gf_ops::{Clock, History, Op};
+use gf_ops::{History, Op};
 use gf_run::StudioError;
 use gf_site::Site;
 use std::alloc::Global;
@@ -46,12 +45,5 @@ fn first_blocking<'a>(history: &History, editor: u8, ops: &[&'a Op]) -> Option<&
 fn is_blocking(history: &History, editor: u8, op: &Op) -> bool
     ensures { result ≡ is_blocking editor history.now.ops op.now }
 {
-    op.id.site == editor || history.count(editor) < entry(op.past, editor)
-}
-
-fn entry(past: Clock, site: u8) -> u32
-    ensures { result ≡ entry past site }
-{
-    let index = usize::from(site).saturating_sub(1);
-    past.0.get(index).copied().unwrap_or(0)
+    op.id.site == editor || history.count(editor) < op.past.entry(editor)
 }

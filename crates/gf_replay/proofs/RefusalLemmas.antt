@@ -47,7 +47,7 @@ continued (o ∷ ops) (a ∷ all) r behind e =
 continued (o ∷ ops) [] r behind e = absurd cc
 
 module _ (bytes : List ℕ) (h : List Op) (d : Denotes bytes h) where
-  at_line : (n : ℕ) (line : List ℕ) (at : IsAt bytes n line) → Continues at.ops d.ops (denoted line)
+  at_line : (n : ℕ) (line : List ℕ) (at : IsAt [] bytes n line) → Continues at.ops d.ops (denoted line)
   at_line n line at =
       let read = λ (l : ℕ × List ℕ). denoted l.1 in
       let parts : map read (at.before ++ (n, line) ∷ at.behind) ≡ map Ok at.ops ++ denoted
@@ -63,7 +63,7 @@ module _ (bytes : List ℕ) (h : List Op) (d : Denotes bytes h) where
   among ops rest last whole a i = subst (λ l. Contains l a) (append_assoc ops (last ∷ []) rest
       ∙ sym whole) (Contains-append_left (ops ++ last ∷ []) rest a i)
 
-  no_fault : (n : ℕ) (line : List ℕ) (at : IsAt bytes n line) (why : LineCause)
+  no_fault : (n : ℕ) (line : List ℕ) (at : IsAt [] bytes n line) (why : LineCause)
       → ¬ (IsFault at.ops line why)
   no_fault n line at cause.Json f = let is = (at_line n line at).is in absurd cc
   no_fault n line at cause.Field f = let is = (at_line n line at).is in absurd cc
@@ -79,10 +79,10 @@ module _ (bytes : List ℕ) (h : List Op) (d : Denotes bytes h) where
       f.other.contained) in
       f.other.differs (d.delivers.one f.other.other f.op other last f.other.id)
 
-  pub denotes_no_fault : (n : ℕ) (why : LineCause) → ¬ (HasFault bytes n why)
+  pub denotes_no_fault : (n : ℕ) (why : LineCause) → ¬ (HasFault [] bytes n why)
   denotes_no_fault n why f = no_fault n f.line f.at why f.fault
 
-  pub denotes_no_drop : (id : OpId) (fault : OpFault) → ¬ (Drops bytes id fault)
+  pub denotes_no_drop : (id : OpId) (fault : OpFault) → ¬ (Drops [] bytes id fault)
   denotes_no_drop id fault x =
       let k = at_line x.number x.line x.at in
       let is = k.is in

@@ -2,6 +2,7 @@
 use Rattle.std.specs.Prelude.{◌≡◌, ◌⊎◌, ℕ, List, [], ◌∷◌, Err, IfOk, IfErr, Result, drop, length, ⊤}
 use Rattle.std.specs.List.{AllZip}
 use Rattle.gf_ops.specs.Limits.{IsInRange}
+use Rattle.gf_ops.specs.declared.op.Op.{Op}
 use Rattle.gf_json.specs.OperationLines.{denoted}
 use Rattle.gf_json.specs.declared.line_error.LineError.TheVariants as fault
 use Rattle.gf_site.specs.ReplicaState.{ReplicaState}
@@ -40,17 +41,17 @@ pub record IsBlock (lines : List (ℕ × List ℕ)) (readings : List Reading)
   pub none : length readings ≡ 0 → lines ≡ []
 
 -- all lines before those of the readings were taken, and behind these come the others
-pub record IsBefore (text : List ℕ) (readings : List Reading) (others : List (ℕ × List ℕ))
-    (x : ReplicaState) : Type 0 where
+pub record IsBefore (known : List Op) (text : List ℕ) (readings : List Reading)
+    (others : List (ℕ × List ℕ)) (x : ReplicaState) : Type 0 where
   pub lines : List (ℕ × List ℕ)
-  pub read : HasRead text lines x
+  pub read : HasRead known text lines x
   pub first : AreFirstReadings lines readings
   pub behind : others ≡ drop (length readings) lines
 
 -- the replica takes what was read, or refuses it
 pub record TakesBlock (readings : List Reading) (x : ReplicaState)
     (result : Result ReplicaState ReadingError) : Type 0 where
-  pub ok : (text : List ℕ) (others : List (ℕ × List ℕ)) → IsBefore text readings others x
-      → IfOk result (HasRead text others)
-  pub err : (text : List ℕ) (others : List (ℕ × List ℕ)) → IsBefore text readings others x
-      → IfErr result (RefusesText text)
+  pub ok : (known : List Op) (text : List ℕ) (others : List (ℕ × List ℕ))
+      → IsBefore known text readings others x → IfOk result (HasRead known text others)
+  pub err : (known : List Op) (text : List ℕ) (others : List (ℕ × List ℕ))
+      → IsBefore known text readings others x → IfErr result (RefusesText known text)

@@ -4,3 +4,4 @@ pub mod Taking
 pub mod Waiting
 pub mod LineSteps
 pub mod Blocks
+pub mod Behind

@@ -9,14 +9,15 @@ use Rattle.gf_replay.specs.declared.reading_error.ReadingError.TheVariants as re
 use Rattle.gf_replay.specs.Denoting.{AreLinesOf}
 use Rattle.gf_replay.specs.Taking.{DropsReady, HasTaken}
 
--- the lines before those that are left denote operations that were taken, and no held one is ready
-pub record HasRead (bytes : List ℕ) (left : List (ℕ × List ℕ))
+-- the lines before those that are left denote operations. The replica has taken the known ones and
+-- these, and no held one is ready
+pub record HasRead (known : List Op) (bytes : List ℕ) (left : List (ℕ × List ℕ))
     (x : ReplicaState) : Type 0 where
   pub before : List (ℕ × List ℕ)
   pub whole : numbered_lines bytes ≡ before ++ left
   pub ops : List Op
   pub lines : AreLinesOf before ops
-  pub taken : HasTaken ops x
+  pub taken : HasTaken (known ++ ops) x
   pub none : NoneIsReady x.ops x.held
 
 -- why a replica does not step until none is ready

@@ -1,5 +1,5 @@
--- Which operation lines denote no history: the first line at fault, or the first operation that
--- doesn't fit (this project's choice, over causal delivery).
+-- Which operation lines denote no history behind known operations: the first line at fault, or the
+-- first operation that doesn't fit (this project's choice, over causal delivery).
 use Rattle.std.specs.Prelude.{◌≡◌, ℕ, List, [], ◌∷◌, ◌++◌, Contains, Ok, Err, ⊤}
 use Rattle.gf_streams.specs.TextLines.{numbered_lines}
 use Rattle.gf_ops.specs.declared.op.Op.{Op}
@@ -18,16 +18,16 @@ use Rattle.gf_replay.specs.declared.reading_error.ReadingError.{ReadingError}
 use Rattle.gf_replay.specs.declared.reading_error.ReadingError.TheVariants as reading
 use Rattle.gf_replay.specs.Denoting.{AreLinesOf, Delivers}
 
--- the lines of the bytes before line number n denote operations that deliver a history, and this is
--- line n
-pub record IsAt (bytes : List ℕ) (n : ℕ) (line : List ℕ) : Type 0 where
+-- the lines of the bytes before line number n denote operations. Behind the known ones they deliver
+-- a history, and this is line n
+pub record IsAt (known : List Op) (bytes : List ℕ) (n : ℕ) (line : List ℕ) : Type 0 where
   pub before : List (ℕ × List ℕ)
   pub behind : List (ℕ × List ℕ)
   pub whole : numbered_lines bytes ≡ before ++ (n, line) ∷ behind
   pub ops : List Op
   pub lines : AreLinesOf before ops
   pub history : List Op
-  pub delivers : Delivers ops history
+  pub delivers : Delivers (known ++ ops) history
 
 -- the line denotes another operation under the id of one of these operations
 pub record IsClashing (ops : List Op) (line : List ℕ) : Type 0 where
@@ -43,32 +43,32 @@ IsFault ops text cause.Range = denoted text ≡ Err line.Range
 IsFault ops text cause.Clash = IsClashing ops text
 
 -- line n is the first that denotes no operation, or another one under an earlier id, for this cause
-pub record HasFault (bytes : List ℕ) (n : ℕ) (cause : LineCause) : Type 0 where
+pub record HasFault (known : List Op) (bytes : List ℕ) (n : ℕ) (cause : LineCause) : Type 0 where
   pub line : List ℕ
-  pub at : IsAt bytes n line
-  pub fault : IsFault at.ops line cause
+  pub at : IsAt known bytes n line
+  pub fault : IsFault (known ++ at.ops) line cause
 
--- what the lines before some line deliver is a valid history. With that line, the operation under
--- this id is ready behind a delivery of the operations so far. It cannot be added to the valid
--- history of that delivery, for this fault
-pub record Drops (bytes : List ℕ) (id : OpId) (fault : OpFault) : Type 0 where
+-- what the known operations and the lines before some line deliver is a valid history. With that
+-- line, the operation under this id is ready behind a delivery of the operations so far. It cannot
+-- be added to the valid history of that delivery, for this fault
+pub record Drops (known : List Op) (bytes : List ℕ) (id : OpId) (fault : OpFault) : Type 0 where
   pub number : ℕ
   pub line : List ℕ
-  pub at : IsAt bytes number line
+  pub at : IsAt known bytes number line
   pub last : Op
   pub denotes : denoted line ≡ Ok last
-  pub one : AreOneById (at.ops ++ last ∷ [])
+  pub one : AreOneById ((known ++ at.ops) ++ last ∷ [])
   pub history : List Op
-  pub delivery : IsDelivery (at.ops ++ last ∷ []) history
+  pub delivery : IsDelivery ((known ++ at.ops) ++ last ∷ []) history
   pub valid : IsValid history
   pub op : Op
-  pub there : Contains (at.ops ++ last ∷ []) op
+  pub there : Contains ((known ++ at.ops) ++ last ∷ []) op
   pub named : op.id ≡ id
   pub ready : IsReady history op
   pub refused : IsRefused history op fault
 
--- why the bytes denote no history; want of memory may come with any
-abbrev pub RefusesText : List ℕ → ReadingError → Type 0
-RefusesText bytes (reading.Line n why) = HasFault bytes n why
-RefusesText bytes (reading.Dropped id fault) = Drops bytes id fault
-RefusesText bytes reading.OutOfMemory = ⊤
+-- why the bytes denote no history behind the known operations; want of memory may come with any
+abbrev pub RefusesText : List Op → List ℕ → ReadingError → Type 0
+RefusesText known bytes (reading.Line n why) = HasFault known bytes n why
+RefusesText known bytes (reading.Dropped id fault) = Drops known bytes id fault
+RefusesText known bytes reading.OutOfMemory = ⊤

@@ -1,10 +1,12 @@
 //! From the lines of a text to a replica.
 
-ghost use Rattle.std.specs.Prelude.{◌≤◌, ◌∷◌, List, ℕ, IfOk, IfErr, IsTrue, OnOk};
+ghost use Rattle.std.specs.Prelude.{◌≤◌, ◌∷◌, [], List, ℕ, IfOk, IfErr, IsTrue, OnOk};
 ghost use denote.Param.Send.{IsSync};
+ghost use Rattle.gf_ops.specs.declared.op.Op.{Op};
 ghost use Rattle.gf_ops.specs.Limits.{IsInRange};
 ghost use Rattle.gf_replay.specs.Blocks.{AreOfLines, IsBefore, IsBlock, IsReading, TakesBlock};
 ghost use Rattle.gf_replay.specs.Denoting.{Denotes};
+ghost use Rattle.gf_replay.specs.Behind.{DeliversLines, HasDelivered};
 ghost use Rattle.gf_replay.specs.Refusing.{RefusesText};
 ghost use Rattle.gf_replay.specs.Waiting.{DenotesWaiting};
 ghost use Rattle.gf_replay.specs.LineSteps.{HasRead};
@@ -31,11 +33,30 @@ pub fn read_replica<R: Threads + Sync>(
     ensures ok { IfOk result (λ replica. Denotes text.items replica.ops) }
     ensures held { IfOk result (λ replica.
         DenotesWaiting text.items replica.ops replica.held) }
-    ensures err { IfErr result (RefusesText text.items) }
+    ensures err { IfErr result (RefusesText [] text.items) }
 {
-    let mut replica = Replica::new(alloc);
-    // The clause of `history` says that each operation was accepted.
-    let _ = replica.history();
+    let replica = read_behind(rt, alloc, Replica::new(alloc), text, workers)?;
+    // The clause of `held` says that the held ids rise.
+    let _ = replica.held();
+    Ok(replica)
+}
+
+/// The replica with the operations of the lines of a text behind those that it was given before.
+/// The lines are read as [`read_replica`] reads them.
+pub fn read_behind<R: Threads + Sync>(
+    rt: &R,
+    alloc: Global,
+    replica: Replica,
+    text: Vec<u8>,
+    workers: u8,
+) -> Result<Replica, ReadingError>
+    requires { (1 ≤ workers) × (workers ≤ 16) }
+    ensures ok { (known : List Op) → HasDelivered known replica
+        → IfOk result (DeliversLines known text.items) }
+    ensures err { (known : List Op) → HasDelivered known replica
+        → IfErr result (RefusesText known text.items) }
+{
+    let mut replica = replica;
     let Ok(mut block) = read_block(rt, alloc, TextLines::new(text), workers) else {
         return Err(ReadingError::OutOfMemory);
     };
@@ -44,8 +65,6 @@ pub fn read_replica<R: Threads + Sync>(
         replica = next.0;
         block = next.1;
     }
-    // The clause of `held` says that the held ids rise.
-    let _ = replica.held();
     Ok(replica)
 }
 
@@ -60,12 +79,14 @@ fn take_and_read<R: Threads + Sync>(
 ) -> Result<(Replica, Block), ReadingError>
     requires workers { 1 ≤ workers }
     requires block { AreOfLines block.readings.items }
-    ensures ok { (text : List ℕ) → IsBefore text block.readings.items block.behind replica
-        → IfOk result (λ next. HasRead text block.behind next.0) }
+    ensures ok { (known : List Op) (text : List ℕ)
+        → IsBefore known text block.readings.items block.behind replica
+        → IfOk result (λ next. HasRead known text block.behind next.0) }
     ensures block { IfOk result (λ next.
         IsBlock block.behind next.1.readings.items next.1.behind) }
-    ensures err { (text : List ℕ) → IsBefore text block.readings.items block.behind replica
-        → IfErr result (RefusesText text) }
+    ensures err { (known : List Op) (text : List ℕ)
+        → IsBefore known text block.readings.items block.behind replica
+        → IfErr result (RefusesText known text) }
 {
     let Block { readings, behind } = block;
     if !is_read_meanwhile(&behind, workers) {
@@ -117,11 +138,13 @@ fn take_block(replica: Replica, readings: Vec<Reading>) -> Result<Replica, Readi
 fn take_reading(replica: &mut Replica, reading: Reading) -> Result<(), ReadingError>
     requires { IfOk reading.op (λ op. IsInRange op) }
     ensures ok { (line : ℕ × List ℕ) → IsReading line reading
-        → (text : List ℕ) (left : List (ℕ × List ℕ)) → HasRead text (line ∷ left) replica.old
-        → OnOk result (HasRead text left replica.new) }
+        → (known : List Op) (text : List ℕ) (left : List (ℕ × List ℕ))
+        → HasRead known text (line ∷ left) replica.old
+        → OnOk result (HasRead known text left replica.new) }
     ensures err { (line : ℕ × List ℕ) → IsReading line reading
-        → (text : List ℕ) (left : List (ℕ × List ℕ)) → HasRead text (line ∷ left) replica.old
-        → IfErr result (RefusesText text) }
+        → (known : List Op) (text : List ℕ) (left : List (ℕ × List ℕ))
+        → HasRead known text (line ∷ left) replica.old
+        → IfErr result (RefusesText known text) }
 {
     let Reading { number, op } = reading;
     match op {

@@ -5,7 +5,7 @@ use Rattle.gf_ops.specs.declared.op.Op.{Op}
 use Rattle.gf_ops.specs.Accepted.{IsAccepted}
 use Rattle.gf_ops.specs.ValidHistory.{IsValid}
 use Rattle.gf_base.proofs.ListLemmas.{not_Contains-nil, Contains-cons_cases}
-use Rattle.gf_site.specs.SiteState.{clock_of}
+use Rattle.gf_ops.specs.OperationOrder.{clock_of}
 use Rattle.gf_site.specs.Course.{IsCourse, none, next}
 use Rattle.gf_site.proofs.CourseLemmas.{course_ready, last_accepted}
 

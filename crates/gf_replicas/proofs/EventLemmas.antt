@@ -13,7 +13,7 @@ use Rattle.std.proofs.lemmas.List.Elements.{Contains-push_cases}
 use Rattle.std.proofs.lemmas.Option.{slice_get_within}
 use Rattle.gf_ops.specs.declared.op.Op.{Op}
 use Rattle.gf_ops.specs.Limits.{IsInRange}
-use Rattle.gf_ops.specs.OperationOrder.{entry, count_of}
+use Rattle.gf_ops.specs.OperationOrder.{clock_of, entry, count_of}
 use Rattle.gf_ops.specs.Accepted.{IsAccepted}
 use Rattle.gf_ops.specs.ValidHistory.{IsValid}
 use Rattle.gf_ops.proofs.HistoryLemmas.{site_in_range, seq_in_range}
@@ -25,7 +25,7 @@ use Rattle.gf_base.proofs.PositionLemmas.{there_is, position_in, position_of}
 use Rattle.gf_causal.specs.DeliveredPart.{AreReady}
 use Rattle.gf_causal.proofs.CourseLemmas.{has_counted, number_counted, same_id}
 use Rattle.gf_causal.proofs.ReadyLemmas.{least_ready}
-use Rattle.gf_site.specs.SiteState.{SiteState, clock_of, authored}
+use Rattle.gf_site.specs.SiteState.{SiteState, authored}
 use Rattle.gf_site.specs.Course.{IsCourse, none as course_none, next as course_next}
 use Rattle.gf_site.proofs.AuthorLemmas.{entry-clock_of}
 use Rattle.gf_site.proofs.CourseLemmas.{accepted_ready, course_ready, last_accepted}

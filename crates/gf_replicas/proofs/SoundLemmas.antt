@@ -11,7 +11,7 @@ use Rattle.gf_ops.specs.declared.op.OpId.{OpId}
 use Rattle.gf_ops.specs.declared.change.Change.{Change}
 use Rattle.gf_ops.specs.declared.change.Change.TheVariants.{Create, Set}
 use Rattle.gf_ops.specs.KnownObject.{IsSuited}
-use Rattle.gf_ops.specs.OperationOrder.{entry, count_of}
+use Rattle.gf_ops.specs.OperationOrder.{clock_of, entry, count_of}
 use Rattle.gf_ops.specs.Accepted.{IsAccepted, AreAccepted, none, next}
 use Rattle.gf_ops.specs.ValidHistory.{IsValid}
 use Rattle.gf_ops.proofs.AimedLemmas.{aimed_beyond}
@@ -22,7 +22,7 @@ use Rattle.gf_causal.specs.HeldOperations.{Adds}
 use Rattle.gf_causal.proofs.CourseLemmas.{has_counted, number_counted, count_within, same_id}
 use Rattle.gf_causal.proofs.ListLemmas.{Contains-between, Contains-between_cases}
 use Rattle.gf_replicas.specs.declared.event.Event.{Event}
-use Rattle.gf_site.specs.SiteState.{SiteState, clock_of}
+use Rattle.gf_site.specs.SiteState.{SiteState}
 use Rattle.gf_site.specs.Events.{Authors, Applies}
 use Rattle.gf_site.specs.Course.{none as course_none, next as course_next}
 use Rattle.gf_replicas.specs.World.{WorldState, new_sites, site_at, with_site, Receives, already}

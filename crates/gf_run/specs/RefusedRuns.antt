@@ -1,5 +1,5 @@
 -- Why a run is refused, whatever it writes (this project's choice).
-use Rattle.std.specs.Prelude.{ℕ, List, ⊤}
+use Rattle.std.specs.Prelude.{ℕ, List, [], ⊤}
 use Rattle.gf_fig_read.specs.FigGrammar.{Fails}
 use Rattle.gf_replay.specs.Refusing.{Drops, HasFault}
 use Rattle.gf_run.specs.declared.studio_error.StudioError.{StudioError}
@@ -19,8 +19,8 @@ IsOfRun e = IsOfInput e
 
 -- why a run that needs a history is refused
 abbrev pub RefusesReading : List ℕ → StudioError → Type 0
-RefusesReading bytes (studio.Line n cause) = HasFault bytes n cause
-RefusesReading bytes (studio.Dropped id fault) = Drops bytes id fault
+RefusesReading bytes (studio.Line n cause) = HasFault [] bytes n cause
+RefusesReading bytes (studio.Dropped id fault) = Drops [] bytes id fault
 RefusesReading bytes e = IsOfRun e
 
 -- why a run that needs the drawing of a FIG text is refused

@@ -6,11 +6,11 @@ use Rattle.std.proofs.lemmas.Bool.{le-leb}
 use Rattle.gf_ops.specs.declared.op.Op.{Op}
 use Rattle.gf_ops.specs.declared.change.Change.{Change}
 use Rattle.gf_ops.specs.Limits.{is_clock, is_change, IsInRange}
-use Rattle.gf_ops.specs.OperationOrder.{IsSite, entry, count_of}
+use Rattle.gf_ops.specs.OperationOrder.{IsSite, clock_of, entry, count_of}
 use Rattle.gf_ops.specs.Accepted.{IsAccepted, IsNext, AreAccepted}
 use Rattle.gf_ops.specs.ValidHistory.{IsValid}
 use Rattle.gf_site.specs.ReplicaState.{ReplicaState}
-use Rattle.gf_site.specs.SiteState.{at_site, clock_of, authored}
+use Rattle.gf_site.specs.SiteState.{at_site, authored}
 use Rattle.gf_site.specs.Events.{Authors}
 use Rattle.gf_site.proofs.CourseLemmas.{count_most, known_most}
 

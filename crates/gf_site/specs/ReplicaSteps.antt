@@ -12,7 +12,7 @@ use Rattle.gf_site.specs.declared.replica.Step.TheVariants as step
 use Rattle.gf_site.specs.ReplicaState.{ReplicaState}
 
 -- the replica took out a, which of the held operations that were ready had the least id
-pub record Takes (old : ReplicaState) (a : Op) (new : ReplicaState) : Type 0 where
+pub record TakesOut (old : ReplicaState) (a : Op) (new : ReplicaState) : Type 0 where
   pub first : IsFirstReady old.held old.ops a
   pub in_range : IsInRange a
   pub taken : Adds new.held a old.held
@@ -21,7 +21,7 @@ pub record Takes (old : ReplicaState) (a : Op) (new : ReplicaState) : Type 0 whe
 pub record AppliesNext (old : ReplicaState) (i : OpId) (new : ReplicaState) : Type 0 where
   pub op : Op
   pub id : op.id ≡ i
-  pub takes : Takes old op new
+  pub takes : TakesOut old op new
   pub accepted : IsAccepted old.ops op
   pub ops : new.ops ≡ old.ops ++ op ∷ []
 
@@ -31,7 +31,7 @@ pub record ForgetsNext (old : ReplicaState) (i : OpId) (f : OpFault) (new : Repl
     : Type 0 where
   pub op : Op
   pub id : op.id ≡ i
-  pub takes : Takes old op new
+  pub takes : TakesOut old op new
   pub refused : IsRefused old.ops op f
   pub ops : new.ops ≡ old.ops
 

@@ -1,10 +1,9 @@
 -- A site as its callers see it, and the operation that it makes of a change (this project's
 -- choice).
-use Rattle.std.specs.Prelude.{ℕ, ◌+◌, List, [], ◌∷◌}
+use Rattle.std.specs.Prelude.{ℕ, ◌+◌, List, []}
 use Rattle.gf_ops.specs.declared.op.Op.{Op}
-use Rattle.gf_ops.specs.declared.op.Clock.{Clock}
 use Rattle.gf_ops.specs.declared.change.Change.{Change}
-use Rattle.gf_ops.specs.OperationOrder.{count_of}
+use Rattle.gf_ops.specs.OperationOrder.{clock_of, count_of}
 use Rattle.gf_site.specs.ReplicaState.{ReplicaState}
 
 -- the number, the operations in the order of adding, and the held operations, rising by id
@@ -24,14 +23,6 @@ replica_of x = record { ops = x.ops; held = x.held }
 -- the site of the number n, which has and holds nothing
 abbrev pub new_site : ℕ → SiteState
 new_site n = record { number = n; ops = []; held = [] }
-
--- the clock that counts the operations of h
-abbrev pub clock_of : List Op → Clock
-clock_of h =
-    record {
-      0 = count_of h 1 ∷ count_of h 2 ∷ count_of h 3 ∷ count_of h 4 ∷ count_of h 5
-          ∷ count_of h 6 ∷ count_of h 7 ∷ count_of h 8 ∷ [];
-    }
 
 -- the operation that site s with the history h makes of the change c
 abbrev pub authored : ℕ → List Op → Change → Op

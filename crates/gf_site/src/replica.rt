@@ -86,6 +86,13 @@ impl Replica {
         })
     }
 
+    /// Has the history of another replica from now on, and holds what it held.
+    pub(crate) fn take_history(&mut self, other: Replica)
+        ensures { self.new ≡ record self.old { ops = other.ops } }
+    {
+        self.history = other.history;
+    }
+
     /// The history.
     pub fn history(&self) -> &History
         ensures ops { result.now.ops ≡ self.now.ops }

@@ -10,7 +10,7 @@ ghost use Rattle.gf_causal.specs.declared.buffer.Offered.{Offered};
 ghost use Rattle.gf_causal.specs.declared.faults.OfferFault.{OfferFault};
 ghost use Rattle.gf_causal.specs.HeldOperations.{AreHeld};
 ghost use Rattle.gf_table.specs.Standing.{StandsFor};
-ghost use Rattle.gf_site.specs.SiteState.{at_site, new_site, replica_of, clock_of, authored};
+ghost use Rattle.gf_site.specs.SiteState.{at_site, new_site, replica_of, authored};
 ghost use Rattle.gf_site.specs.ReplicaSteps.{HasNext};
 ghost use Rattle.gf_site.specs.Events.{Refuses, Authors, Steps};
 ghost use Rattle.gf_site.specs.Offers.{HasOtherThan, HasAlready, IsNewTo, ComesToHold};
@@ -19,7 +19,7 @@ ghost use Rattle.gf_site.specs.declared.faults.AuthorFault.TheVariants as fault;
 use crate::{AuthorFault, Replica, Step};
 use gf_base::OutOfMemory;
 use gf_causal::{OfferFault, Offered};
-use gf_ops::{Change, Clock, History, Op, OpFault, OpId};
+use gf_ops::{Change, History, Op, OpFault, OpId};
 use gf_table::{GroupTable, IndexedHistory};
 use std::alloc::Global;
 use std::marker::Model;
@@ -104,6 +104,13 @@ impl Site {
         ensures { result.now ≡ replica_of self.now }
     {
         &self.replica
+    }
+
+    /// Gives the history of the site to a replica, which goes on holding what it held.
+    pub fn give_history(self, replica: &mut Replica)
+        ensures { replica.new ≡ record replica.old { ops = self.ops } }
+    {
+        replica.take_history(self.replica);
     }
 
     /// The history of the site.
@@ -229,23 +236,7 @@ fn next_op(history: &History, site: u8, change: Change) -> Op
             site,
             seq: history.count(site) + 1,
         },
-        past: clock_of(history),
+        past: history.clock(),
         change,
     }
-}
-
-/// The clock that counts a history.
-fn clock_of(history: &History) -> Clock
-    ensures { result ≡ clock_of history.now.ops }
-{
-    Clock([
-        history.count(1),
-        history.count(2),
-        history.count(3),
-        history.count(4),
-        history.count(5),
-        history.count(6),
-        history.count(7),
-        history.count(8),
-    ])
 }

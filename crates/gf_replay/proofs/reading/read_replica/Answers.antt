@@ -1,33 +1,22 @@
-use Rattle.std.proofs.Common.{◌≡◌, ◌≢◌, arith, length, rules}
+use Rattle.std.proofs.Common.{[], subst, sym}
 use Rattle.std.proofs.lemmas.Result.{err_from_is_err_and}
-use Rattle.gf_replay.proofs.BlockLemmas.{block_length}
-use Rattle.gf_replay.proofs.ReadingLemmas.{Denotes-read, DenotesWaiting-read, HasRead-block}
+use Rattle.gf_replay.specs.Behind.{HasDelivered}
+use Rattle.gf_replay.proofs.ReadingLemmas.{Denotes-read, DenotesWaiting-read, none_delivered}
 use Rattle.gf_replay.proofs.reading.read_replica.Goals as goal
 
-pub returns-in_err-next-clause-err : goal.returns-in_err-next-clause-err
-returns-in_err-next-clause-err g c =
+pub returns-in_err-replica-clause-err : goal.returns-in_err-replica-clause-err
+returns-in_err-replica-clause-err g c =
     let p = err_from_is_err_and c.from_residual.result c.from_residual.ensures.1 in
-    rw (p.1, p.2) (c.in_err-next.ensures.err c.args.text.items c.loop-alloc.invariant.before)
-
-pub loop-alloc-smaller : goal.loop-alloc-smaller
-loop-alloc-smaller g c =
-    let long = block_length _ _ _ c.in_ok-next.ensures.block in
-    let some : length c.loop-alloc.block.readings.items ≢ 0 = search rules in
-    omega (arith, long, some)
+    rw (p.1, p.2) (c.in_err-replica.ensures.err []
+    (subst (HasDelivered []) (sym c.new.ensures) none_delivered))
 
 pub returns-clause-ok : goal.returns-clause-ok
 returns-clause-ok g c =
-    let none : length c.loop-alloc.block.readings.items ≡ 0 = search rules in
-    Denotes-read c.args.text.items c.loop-alloc.replica
-    (rw (c.loop-alloc.invariant.none none)
-    at (HasRead-block c.args.text.items _ _ c.loop-alloc.replica
-    none c.loop-alloc.invariant.before))
+    Denotes-read c.args.text.items c.in_ok-replica.replica
+    (c.in_ok-replica.ensures.ok [] (subst (HasDelivered []) (sym c.new.ensures) none_delivered))
 
 pub returns-clause-held : goal.returns-clause-held
 returns-clause-held g c =
-    let none : length c.loop-alloc.block.readings.items ≡ 0 = search rules in
-    DenotesWaiting-read c.args.text.items c.loop-alloc.replica
-    (rw (c.loop-alloc.invariant.none none)
-    at (HasRead-block c.args.text.items _ _ c.loop-alloc.replica
-    none c.loop-alloc.invariant.before))
+    DenotesWaiting-read c.args.text.items c.in_ok-replica.replica
+    (c.in_ok-replica.ensures.ok [] (subst (HasDelivered []) (sym c.new.ensures) none_delivered))
     c.held.ensures.valid

@@ -11,9 +11,9 @@ loop-reading-preserved c =
     let steps = c.in-Some.ensures.steps.0 in
     record {
       block = AreOfLines-rest c.in-Some.reading _ (rw steps at c.loop-reading.invariant.block);
-      before = λ text others whole.
-          IsBefore-line text c.in-Some.reading _ others c.loop-reading.replica
-          (rw steps at c.loop-reading.invariant.before text others whole)
+      before = λ known text others whole.
+          IsBefore-line known text c.in-Some.reading _ others c.loop-reading.replica
+          (rw steps at c.loop-reading.invariant.before known text others whole)
           c.take_reading.new.replica c.in_ok-take_reading.ensures.ok;
     }
 
@@ -22,19 +22,19 @@ returns-in_err-take_reading c =
     let steps = c.in-Some.ensures.steps.0 in
     let p = err_from_is_err_and c.from_residual.result c.from_residual.ensures.1 in
     rw p.1 (record {
-      ok = λ text others whole. tt;
-      err = λ text others whole.
-          RefusesText-first text c.in-Some.reading _ others c.loop-reading.replica
-          (rw steps at c.loop-reading.invariant.before text others whole) _
-          (λ line reads bytes left read. subst (RefusesText bytes) (sym p.2)
-          (c.in_err-take_reading.ensures.err line reads bytes left read));
+      ok = λ known text others whole. tt;
+      err = λ known text others whole.
+          RefusesText-first known text c.in-Some.reading _ others c.loop-reading.replica
+          (rw steps at c.loop-reading.invariant.before known text others whole) _
+          (λ line reads all bytes left read. subst (RefusesText all bytes) (sym p.2)
+          (c.in_err-take_reading.ensures.err line reads all bytes left read));
     })
 
 pub returns : goal.returns
 returns c = record {
-  ok = λ text others whole.
+  ok = λ known text others whole.
       let none : length (into_iter_items c.loop-reading.reading-iterator) ≡ 0 = search rules in
-      HasRead-block text _ others c.loop-reading.replica none
-      (c.loop-reading.invariant.before text others whole);
-  err = λ text others whole. tt;
+      HasRead-block known text _ others c.loop-reading.replica none
+      (c.loop-reading.invariant.before known text others whole);
+  err = λ known text others whole. tt;
 }

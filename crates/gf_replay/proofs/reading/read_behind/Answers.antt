@@ -1,0 +1,25 @@
+use Rattle.std.proofs.Common.{◌≡◌, ◌≢◌, arith, length, rules}
+use Rattle.std.proofs.lemmas.Result.{err_from_is_err_and}
+use Rattle.gf_replay.proofs.BlockLemmas.{block_length}
+use Rattle.gf_replay.proofs.ReadingLemmas.{DeliversLines-read, HasRead-begun, HasRead-block}
+use Rattle.gf_replay.proofs.reading.read_behind.Goals as goal
+
+pub returns-in_err-next-clause-err : goal.returns-in_err-next-clause-err
+returns-in_err-next-clause-err g c = λ known d.
+    let p = err_from_is_err_and c.from_residual.result c.from_residual.ensures.1 in
+    rw (p.1, p.2) (c.in_err-next.ensures.err known c.args.text.items
+    (c.loop-alloc.invariant.before known d))
+
+pub loop-alloc-smaller : goal.loop-alloc-smaller
+loop-alloc-smaller g c =
+    let long = block_length _ _ _ c.in_ok-next.ensures.block in
+    let some : length c.loop-alloc.block.readings.items ≢ 0 = search rules in
+    omega (arith, long, some)
+
+pub returns-clause-ok : goal.returns-clause-ok
+returns-clause-ok g c = λ known d.
+    let none : length c.loop-alloc.block.readings.items ≡ 0 = search rules in
+    DeliversLines-read known c.args.text.items c.loop-alloc.replica
+    (rw (c.loop-alloc.invariant.none none)
+    at (HasRead-block known c.args.text.items _ _ c.loop-alloc.replica
+    none (c.loop-alloc.invariant.before known d)))
