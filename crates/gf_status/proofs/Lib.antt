@@ -6,3 +6,5 @@ pub mod DifferingLemmas
 pub mod CleanLemmas
 pub mod StatusLemmas
 mod JsonLemmas
+pub mod SameStatusLemmas
+pub mod KeptLemmas

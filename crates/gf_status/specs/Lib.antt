@@ -7,3 +7,5 @@ pub mod StatusLines
 pub mod StatusJson
 pub mod StatusRun
 pub mod Setters
+pub mod KeptStatuses
+pub mod StatusPlaces

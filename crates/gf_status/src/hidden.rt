@@ -1,8 +1,7 @@
 //! What hides an object, and who changed what is hidden without knowing it.
 
 ghost use Rattle.std.specs.Prelude.{◌≡◌, ◌↔◌, [], length, Contains, IfOk, IsTrue, flat_map, map};
-ghost use Rattle.std.specs.BTreeSet.{contains, insert_key};
-ghost use Rattle.std.specs.List.{fold};
+ghost use Rattle.std.specs.BTreeSet.{contains};
 ghost use Rattle.gf_ops.specs.declared.op.OpId.{OpId};
 ghost use Rattle.gf_ops.specs.OperationOrder.{id_cmp};
 ghost use Rattle.gf_groups.specs.declared.group.Group.{Group};
@@ -17,7 +16,7 @@ use crate::setters::{lasts, setters};
 use crate::unseen::{hidings, unknowing};
 use gf_base::OutOfMemory;
 use gf_groups::Group;
-use gf_ops::{Attr, History, Ids, ObjectId, Op, OpId};
+use gf_ops::{Attr, History, Ids, ObjectId, Op, OpId, id_set};
 use std::alloc::Global;
 use std::collections::BTreeSet;
 
@@ -72,7 +71,7 @@ fn members_of(alloc: Global, groups: &[Group]) -> Result<BTreeSet<OpId>, OutOfMe
         ↔ Contains (flat_map (λ (g : Group). g.ops) groups.now) i) }
 {
     let ids = listed(alloc, groups)?;
-    let seen = set_of(alloc, &ids)?;
+    let seen = id_set(alloc, &ids)?;
     Ok(seen)
 }
 
@@ -86,15 +85,4 @@ fn listed(alloc: Global, groups: &[Group]) -> Result<Vec<OpId>, OutOfMemory>
         ids.extend_from_slice(group.ops.as_slice())?;
     }
     Ok(ids)
-}
-
-/// The set of the given ids.
-fn set_of(alloc: Global, ids: &[OpId]) -> Result<BTreeSet<OpId>, OutOfMemory>
-    ensures { IfOk result (λ set. set.keys ≡ fold (insert_key id_cmp) [] ids.now) }
-{
-    let mut set = BTreeSet::new(alloc);
-    for id in ids {
-        set.insert(*id)?;
-    }
-    Ok(set)
 }

@@ -4,7 +4,8 @@ ghost use Rattle.std.specs.Prelude.{◌≡◌, ◌++◌, [], IfOk, OnOk, cond, f
 ghost use Rattle.serde_json.specs.View.{view};
 ghost use Rattle.gf_status.specs.StatusJson.{difference_data, drawing_data, object_data};
 ghost use Rattle.gf_status.specs.StatusJson.{object_json, site_data, site_json, status_json};
-ghost use Rattle.gf_status.specs.StatusJson.{differences_data, is_clean, waiting_data, waiting_json};
+ghost use Rattle.gf_status.specs.StatusJson.{differences_data, is_clean, waiting_data};
+ghost use Rattle.gf_status.specs.StatusJson.{waiting_json};
 ghost use Rattle.gf_json.specs.Notations.{json_line};
 
 use crate::counting::shown_in;

@@ -3,9 +3,10 @@
 //! hidden although somebody did not know it.
 //!
 //! - [`status_run`]: reads operation lines and writes the status of their history; it answers a
-//!   [`State`].
+//!   [`State`]. [`status_of_replica`]: the same of a replica.
 //! - [`object_statuses`]: an [`ObjectStatus`] for each object, with a [`Difference`] for each
 //!   attribute that differs among its visible versions.
+//! - [`KeptStatuses`]: the same statuses, kept while the history grows.
 //! - [`a_clean_history_has_no_more_versions_than_a_drawing`]: the law of a clean status.
 #![tactic(auto)]
 
@@ -14,6 +15,7 @@ mod differing;
 mod hidden;
 mod ids;
 mod json;
+mod kept;
 mod laws;
 mod lines;
 mod objects;
@@ -23,7 +25,8 @@ mod state;
 mod unseen;
 
 pub use differing::Difference;
+pub use kept::KeptStatuses;
 pub use laws::a_clean_history_has_no_more_versions_than_a_drawing;
 pub use objects::{ObjectStatus, object_statuses};
-pub use run::status_run;
+pub use run::{status_of_replica, status_run};
 pub use state::State;

@@ -52,7 +52,7 @@ pub fn object_statuses(
 }
 
 /// The status of an object that the history made.
-fn object_status(
+pub(crate) fn object_status(
     alloc: Global,
     versions: &Versions<'_>,
     object: ObjectId,

@@ -5,6 +5,7 @@ ghost use Rattle.std.specs.List.{list_all};
 ghost use Rattle.gf_run.specs.RefusedRuns.{IsBetween};
 ghost use Rattle.gf_run.specs.RefusedRuns.{RefusesReading};
 ghost use Rattle.gf_run.specs.RunAnswers.{LeavesSink, ReadsInput};
+ghost use Rattle.gf_status.specs.KeptStatuses.{AreKept};
 ghost use Rattle.gf_status.specs.StatusRun.{DenotesStatus, IsStatusOf, TellsStatus, WritesStatus};
 ghost use Rattle.gf_status.specs.StatusRun.{status_in};
 ghost use Rattle.gf_status.specs.StatusLines.{are_clean, is_at_most_one, is_clean, state_of};
@@ -12,7 +13,7 @@ ghost use Rattle.gf_status.specs.StatusLines.{are_clean, is_at_most_one, is_clea
 use crate::counting::shown_in;
 use crate::json::status_json;
 use crate::lines::status_text;
-use crate::{ObjectStatus, State, object_statuses};
+use crate::{KeptStatuses, ObjectStatus, State};
 use gf_base::OutOfMemory;
 use gf_json::Notation;
 use gf_listing::Versions;
@@ -79,22 +80,31 @@ fn status_of<T: Threads + Sync>(
     ensures between { IfErr result IsBetween }
 {
     let replica = read_replica(rt, alloc, bytes, workers)?;
-    match tell(alloc, &replica, notation) {
+    let mut statuses = KeptStatuses::new(alloc);
+    match status_of_replica(alloc, &replica, &mut statuses, notation) {
         Ok(status) => Ok(status),
         Err(OutOfMemory) => Err(StudioError::OutOfMemory),
     }
 }
 
-/// The status of a replica's history.
-fn tell(alloc: Global, replica: &Replica, notation: Notation) -> Result<Answer<State>, OutOfMemory>
-    ensures { IfOk result (λ status.
+/// The status of a replica's history, and of what waits behind it. What is kept of that history
+/// grows by what was made.
+pub fn status_of_replica(
+    alloc: Global,
+    replica: &Replica,
+    statuses: &mut KeptStatuses,
+    notation: Notation,
+) -> Result<Answer<State>, OutOfMemory>
+    requires { AreKept replica.now.ops statuses.old }
+    ensures keeps { AreKept replica.now.ops statuses.new }
+    ensures tells { IfOk result (λ status.
         TellsStatus notation replica.now.ops replica.now.held status.text.items status.value) }
 {
     let history = replica.history();
     let waiting = replica.held_ops(alloc)?;
-    let objects = object_statuses(alloc, &Versions::of(replica.indexed()))?;
-    let text = status_in(alloc, notation, history, &waiting, &objects)?;
-    let state = state_of(&waiting, &objects);
+    statuses.refresh(alloc, &Versions::of(replica.indexed()))?;
+    let text = status_in(alloc, notation, history, &waiting, statuses.as_slice())?;
+    let state = state_of(&waiting, statuses.as_slice());
     Ok(Answer { text, value: state })
 }
 
