@@ -103,10 +103,7 @@ pub fn draw_replica(alloc: Global, replica: &Replica) -> Result<Drawing<AnyShape
 }
 
 /// The visible versions of a replica's history, if they are no more than a drawing has.
-pub(crate) fn ranked_replica(
-    alloc: Global,
-    replica: &Replica,
-) -> Result<Ranked<AnyShape>, CompileFault>
+fn ranked_replica(alloc: Global, replica: &Replica) -> Result<Ranked<AnyShape>, CompileFault>
     ensures ranked { IfOk result (λ ranked. AreRanked replica.now.ops ranked.items.items) }
     ensures err { IfErr result (RefusesHistory replica.now.ops) }
 {
@@ -114,7 +111,7 @@ pub(crate) fn ranked_replica(
 }
 
 /// The list that was made, or why there is none.
-fn listed(
+pub(crate) fn listed(
     found: Result<Option<Ranked<AnyShape>>, OutOfMemory>,
 ) -> Result<Ranked<AnyShape>, CompileFault>
     ensures { result ≡ of_ranked found }

@@ -1,6 +1,6 @@
 //! The laws of runs, each the contract of a function that does nothing.
 
-ghost use Rattle.std.specs.Prelude.{◌≡◌, ℕ, List};
+ghost use Rattle.std.specs.Prelude.{◌≡◌, ℕ, List, []};
 ghost use Rattle.gf_shape.specs.declared.any_shape.AnyShape.{AnyShape};
 ghost use Rattle.gf_shape.specs.Outlines.{any_outline};
 ghost use Rattle.gf_ops.specs.declared.faults.OpFault.{OpFault};
@@ -38,9 +38,9 @@ pub fn the_text_of_what_lines_denote_shows_it()
 /// has a drawing, the input is refused neither for its versions nor for its colours.
 pub fn what_denotes_a_history_is_not_refused()
     ensures line { (bytes : List ℕ) (h : List Op) → Denotes bytes h → (n : ℕ) (cause : LineCause) →
-        ¬ (HasFault bytes n cause) }
+        ¬ (HasFault [] bytes n cause) }
     ensures dropped { (bytes : List ℕ) (h : List Op) → Denotes bytes h →
-        (id : OpId) (fault : OpFault) → ¬ (Drops bytes id fault) }
+        (id : OpId) (fault : OpFault) → ¬ (Drops [] bytes id fault) }
     ensures compile { (bytes : List ℕ) (drawing : DrawingState AnyShape) → Draws bytes drawing →
         (fault : CompileFault) → ¬ (RefusesCompiling bytes fault) }
 {}

@@ -10,7 +10,7 @@
 //! - [`paint_run`], [`repaint_run`]: the same of operation lines, and of a FIG text, in a window.
 //! - [`inspect_run`]: reads operation lines and writes what their history answers to a [`Query`],
 //!   as an [`Inspection`] asks.
-//! - [`draw_replica`]: the drawing of a replica's history.
+//! - [`draw_replica`], [`named_of_replica`]: the drawing of a replica's history; its named text.
 //! - [`drawing_of_lines`], [`drawing_of_fig`]: the drawing that the bytes of a source denote; of
 //!   lines it is [`DrawnLines`], with how many operations wait.
 //! - [`the_same_operations_draw_alike`], [`the_same_histories_draw_alike`]: the laws that neither
@@ -37,6 +37,6 @@ pub use laws::{
     the_same_histories_draw_alike, the_same_operations_draw_alike, the_same_operations_fit_alike,
     the_text_of_what_lines_denote_shows_it, what_denotes_a_history_is_not_refused,
 };
-pub use naming::{NamedRun, named_fig_run};
+pub use naming::{NamedRun, named_fig_run, named_of_replica};
 pub use painting::{Extent, Format, Painted, Picture, picture_run};
 pub use runs::{fig_run, paint_run, repaint_run};

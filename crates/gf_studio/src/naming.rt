@@ -2,6 +2,8 @@
 
 ghost use Rattle.std.specs.Prelude.{◌≡◌, ◌≤◌, IfSome, IfOk, IfErr, OnOk, length};
 ghost use Rattle.gf_fig_named.specs.NamedText.{IsNamedText};
+ghost use Rattle.gf_kept.specs.Keeping.{Keeps};
+ghost use Rattle.gf_versions.specs.Ranking.{AreRanked};
 ghost use Rattle.gf_fig_named.specs.ThinPolygons.{AreThinOf};
 ghost use Rattle.gf_studio.specs.FigRun.{Exports, HasThin, HoldsBack, IsNamedOf};
 ghost use Rattle.gf_studio.specs.FigRun.{RefusesHistory, WritesNamed};
@@ -9,14 +11,18 @@ ghost use Rattle.gf_run.specs.RefusedRuns.{IsBetween};
 ghost use Rattle.gf_studio.specs.RefusedRuns.{RefusesLines};
 ghost use Rattle.gf_run.specs.RunAnswers.{LeavesSink, ReadsInput};
 
-use crate::drawings::ranked_replica;
+use crate::drawings::listed;
 use gf_drawing::CompileFault;
 use gf_fig_named::{named_bytes, thin_polygons};
+use gf_kept::KeptVersions;
+use gf_listing::Versions;
 use gf_ops::ObjectId;
 use gf_replay::read_replica;
 use gf_run::{Answer, StudioError, run};
+use gf_shape::AnyShape;
 use gf_site::Replica;
 use gf_streams::{Sink, Source};
+use gf_versions::{MOST_VERSIONS, Ranked};
 use std::alloc::Global;
 use std::thread::Threads;
 
@@ -88,18 +94,26 @@ fn name<T: Threads + Sync>(
     ensures between { IfErr result IsBetween }
 {
     let replica = read_replica(rt, alloc, bytes, workers)?;
-    let named = name_replica(alloc, &replica)?;
+    let mut kept = KeptVersions::new(alloc);
+    let named = named_of_replica(alloc, &replica, &mut kept)?;
     Ok(named)
 }
 
-/// The named text of a replica's history, and what is told of it.
-fn name_replica(alloc: Global, replica: &Replica) -> Result<Answer<NamedRun>, CompileFault>
+/// The named text of a replica's history, and what is told of it. What is kept of that history
+/// grows by what was found.
+pub fn named_of_replica(
+    alloc: Global,
+    replica: &Replica,
+    kept: &mut KeptVersions,
+) -> Result<Answer<NamedRun>, CompileFault>
+    requires { Keeps replica.now.ops kept.old }
+    ensures keeps { Keeps replica.now.ops kept.new }
     ensures ok { IfOk result (λ named. IsNamedText replica.now.ops named.text.items) }
     ensures waiting { IfOk result (λ named. named.value.waiting ≡ length replica.now.held) }
     ensures thin { IfOk result (λ named. AreThinOf replica.now.ops named.value.thin.items) }
     ensures err { IfErr result (RefusesHistory replica.now.ops) }
 {
-    let ranked = ranked_replica(alloc, replica)?;
+    let ranked = ranked_kept(alloc, replica, kept)?;
     let thin = thin_polygons(alloc, &ranked.items)?;
     let text = named_bytes(alloc, replica.history(), ranked)?;
     let waiting = replica.held();
@@ -107,4 +121,19 @@ fn name_replica(alloc: Global, replica: &Replica) -> Result<Answer<NamedRun>, Co
         text,
         value: NamedRun { waiting, thin },
     })
+}
+
+/// The visible versions of a replica's history, topmost first, by what is kept of it.
+fn ranked_kept(
+    alloc: Global,
+    replica: &Replica,
+    kept: &mut KeptVersions,
+) -> Result<Ranked<AnyShape>, CompileFault>
+    requires { Keeps replica.now.ops kept.old }
+    ensures keeps { Keeps replica.now.ops kept.new }
+    ensures ranked { IfOk result (λ ranked. AreRanked replica.now.ops ranked.items.items) }
+    ensures err { IfErr result (RefusesHistory replica.now.ops) }
+{
+    let versions = Versions::of(replica.indexed());
+    listed(kept.ranked_within(alloc, &versions, MOST_VERSIONS))
 }

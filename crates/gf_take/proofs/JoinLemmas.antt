@@ -11,7 +11,7 @@ use Rattle.std.proofs.lemmas.List.Elements.{Contains-append_right, Contains-push
 use Rattle.gf_ops.specs.declared.op.Op.{Op}
 use Rattle.gf_ops.specs.declared.op.OpId.{OpId}
 use Rattle.gf_ops.specs.declared.op.Clock.{Clock}
-use Rattle.gf_ops.specs.OperationOrder.{entry, count_of}
+use Rattle.gf_ops.specs.OperationOrder.{clock_of, entry, count_of}
 use Rattle.gf_ops.specs.Accepted.{AreAccepted, IsAccepted, next as accepted_next}
 use Rattle.gf_ops.specs.declared.change.Change.{Change}
 use Rattle.gf_ops.specs.ValidHistory.{IsValid}
@@ -22,8 +22,10 @@ use Rattle.gf_causal.specs.DeliveredPart.{AreOneById, HaveSame, IsDelivery, IsLa
 use Rattle.gf_causal.proofs.CourseLemmas.{delivered_part}
 use Rattle.gf_causal.proofs.CourseLemmas.{has_counted, number_counted, same_id}
 use Rattle.gf_causal.proofs.FinishLemmas.{delivery-push}
-use Rattle.gf_site.specs.SiteState.{authored, clock_of}
+use Rattle.gf_site.specs.SiteState.{authored}
 use Rattle.gf_site.proofs.CourseLemmas.{all_ready}
+use Rattle.gf_site.specs.ReplicaState.{ReplicaState}
+use Rattle.gf_replay.specs.Behind.{HasDelivered}
 use Rattle.gf_replay.specs.Denoting.{Delivers}
 use Rattle.gf_site.specs.MadeEach.{MakesEach, none as each_none, next as each_next}
 use Rattle.gf_take.specs.Bases.{AreRead, IsBase, JoinsTake}
@@ -212,3 +214,48 @@ makes_accepted s c h b changes new valid run base m =
     added_accepted s h run new
     (made_beyond s h b valid run base.accepted (base_within s c h b valid base)
     (base_own s c h b valid base) changes new m)
+
+-- what was given, with the new operations behind it, is taken, and nothing that is held is ready
+pub takes_on : (s : ℕ) (c : Clock) (ops b new : List Op) (x : ReplicaState) → HasDelivered ops x
+    → AreRead s ops x.ops → IsBase s c x.ops b → (changes : List Change)
+    → MakesEach s b changes new
+    → HasDelivered (ops ++ new) (record { ops = x.ops ++ new; held = x.held })
+takes_on s c ops b new x d read base changes makes = record {
+  taken = record {
+    one = joined.one;
+    all = λ a. (
+      λ i. elim (Contains-append_cases ops new a i) [
+        | inl j ↦ elim ((d.taken.all a).0 j) [
+          | inl k ↦ inl k
+          | inr k ↦ inr (Contains-append_left x.ops new a k)
+        ]
+        | inr j ↦ inr (Contains-append_right x.ops new a j)
+      ],
+      λ i. elim i [
+        | inl k ↦ Contains-append_left ops new a ((d.taken.all a).1 (inl k))
+        | inr k ↦ elim (Contains-append_cases x.ops new a k) [
+          | inl j ↦ Contains-append_left ops new a ((d.taken.all a).1 (inr j))
+          | inr j ↦ Contains-append_right ops new a j
+        ]
+      ],
+    );
+    others = λ a i k. elim (Contains-append_cases x.ops new a k) [
+      | inl j ↦ d.taken.others a i j
+      | inr j ↦ not_new s ops x.ops read new m a a ((d.taken.all a).1 (inl i)) j refl
+    ];
+    accepted = run_all s ops x.ops read new m;
+    valid = joined.valid;
+  };
+  none = λ a i r. (last s ops x.ops read new m (ops ++ new) (λ b. (λ k. k, λ k. k))).last a
+      (Contains-append_left ops new a ((d.taken.all a).1 (inl i))) r;
+}
+  where
+    valid : IsValid x.ops
+    valid = read.delivers.valid
+
+    m : AreAdded s x.ops new
+    m = made_beyond s x.ops b valid read.accepted base.accepted (base_within s c x.ops b valid base)
+        (base_own s c x.ops b valid base) changes new makes
+
+    joined : Delivers (ops ++ new) (x.ops ++ new)
+    joined = join_delivers s ops x.ops read new m (ops ++ new) (λ b. (λ k. k, λ k. k))

@@ -30,7 +30,7 @@ use Rattle.gf_drawing.specs.CanonicalDrawing.{canonical_table, colours_of}
 use Rattle.gf_drawing.proofs.CompilingLemmas.{own_colour}
 use Rattle.gf_drawing.proofs.NumberLemmas.{number_gives}
 use Rattle.gf_fig_named.specs.NamedText.{IsNamedText}
-use Rattle.gf_fig_named.specs.Raised.{figure_raised, named_depth, raised}
+use Rattle.gf_fig_named.specs.Raised.{figure_raised, named_depth, drawing_raised}
 use Rattle.gf_fig_named.proofs.RaisedLemmas.{IsRising, named_fits, named_rises}
 use Rattle.gf_take.specs.ShownDrawing.{IsReordered, ShowsDrawing, first, look_at, look_of, next}
 use Rattle.gf_take.specs.ShownDrawing.{none, shape_become}
@@ -130,7 +130,7 @@ reordered_same table (f ∷ fs) = next f first (reordered_same table fs)
 -- a history shows its own drawing, at depths that rise
 raised_shown : (h : List Op) (items : List (Placed AnyShape)) (g : ℕ → ℕ) → IsValid h
     → AreRanked h items → IsRising g → ((k : ℕ) → k < length items → g k < 1000)
-    → ShowsDrawing h (outlined any_outline (raised g (canonical_drawing items)))
+    → ShowsDrawing h (outlined any_outline (drawing_raised g (canonical_drawing items)))
 raised_shown h items g valid ranked rising within =
     let cs = colours_of items in
     let figures = own_figures g rising cs 0 items in
@@ -148,7 +148,7 @@ raised_shown h items g valid ranked rising within =
 -- also where it is its named text's
 pub named_drawing_shown : (h : List Op) (text : List ℕ) → IsValid h → (named : IsNamedText h text)
     → ShowsDrawing h (outlined any_outline
-    (raised (named_depth (length named.items)) (canonical_drawing named.items)))
+    (drawing_raised (named_depth (length named.items)) (canonical_drawing named.items)))
 named_drawing_shown h text valid named =
     let count = length named.items in
     raised_shown h named.items (named_depth count) valid named.ranked (named_rises count)

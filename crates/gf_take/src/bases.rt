@@ -1,7 +1,7 @@
 //! The base of a site: what a designer saw, all that the site made, and what these know.
 
-ghost use Rattle.std.specs.Prelude.{◌≡◌, ◌≤◌, [], ◌∷◌, IfOk, IsTrue};
-ghost use Rattle.gf_ops.specs.OperationOrder.{IsSite, entry};
+ghost use Rattle.std.specs.Prelude.{◌≡◌, [], IfOk, IsTrue};
+ghost use Rattle.gf_ops.specs.OperationOrder.{IsSite};
 ghost use Rattle.gf_ops.specs.ValidHistory.{IsValid};
 ghost use Rattle.gf_take.specs.Bases.{IsBase};
 ghost use Rattle.gf_take.specs.Reaching.{AreReached, IsReach, is_counted, is_seen, reach_at};
@@ -44,7 +44,7 @@ pub fn is_whole_base(site: u8, history: &History, seen: &Clock) -> bool
 {
     let reach = reach(site, seen, history.ops());
     for of in 1..9 {
-        if entry(&reach, of) < history.count(of) {
+        if reach.entry(of) < history.count(of) {
             return false;
         }
     }
@@ -102,14 +102,6 @@ fn reach_at(of: u8, op: &Op) -> u32
     } else {
         op.past.0[usize::from(of) - 1]
     }
-}
-
-/// How many operations of a site a clock counts.
-fn entry(clock: &Clock, of: u8) -> u32
-    requires { IsSite of }
-    ensures { result ≡ entry clock.now of }
-{
-    clock.0[usize::from(of) - 1]
 }
 
 /// Whether a clock counts the operation.

@@ -14,7 +14,7 @@ ghost use Rattle.gf_figures.specs.DrawingState.{DrawingState};
 ghost use Rattle.gf_figures.specs.Outlined.{outlined};
 ghost use Rattle.gf_drawing.specs.CanonicalDrawing.{IsCanonical, PaintsAsFig, canonical_drawing};
 ghost use Rattle.gf_fig_named.specs.NamedText.{IsNamedText};
-ghost use Rattle.gf_fig_named.specs.Raised.{named_depth, raised};
+ghost use Rattle.gf_fig_named.specs.Raised.{named_depth, drawing_raised};
 ghost use Rattle.gf_take.specs.Bases.{IsBase, IsClosedPart, JoinsTake};
 ghost use Rattle.gf_take.specs.ShownDrawing.{ShowsDrawing};
 
@@ -30,7 +30,7 @@ pub fn a_history_shows_its_own_drawing()
         → ShowsDrawing h (outlined any_outline d) }
     ensures named { (h : List Op) (text : List ℕ) → IsValid h → (named : IsNamedText h text)
         → ShowsDrawing h (outlined any_outline
-        (raised (named_depth (length named.items)) (canonical_drawing named.items))) }
+        (drawing_raised (named_depth (length named.items)) (canonical_drawing named.items))) }
 {}
 
 /// Operations of a valid history that have with each of them all that it knows are a valid

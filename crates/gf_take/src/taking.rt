@@ -13,9 +13,10 @@ ghost use Rattle.gf_take.specs.TakingSteps.{MakesOne, RefusesOne};
 use crate::matching::{is_like, look_alike, show_figures};
 use gf_base::OutOfMemory;
 use gf_figures::{Drawing, Figure};
+use gf_kept::KeptSite;
 use gf_ops::{Change, Op};
 use gf_shape::{AnyShape, Outline};
-use gf_site::{AuthorFault, Site};
+use gf_site::AuthorFault;
 use gf_versions::Placed;
 use std::alloc::Global;
 
@@ -23,7 +24,7 @@ use std::alloc::Global;
 /// refusal leaves the site with what was made.
 pub fn make_all(
     alloc: Global,
-    site: &mut Site,
+    site: &mut KeptSite,
     changes: Vec<Change>,
 ) -> Result<Vec<Op>, AuthorFault>
     ensures ok { IfOk result (λ ops.
@@ -38,7 +39,7 @@ pub fn make_all(
 }
 
 /// Makes a change, and appends its operation.
-fn make(site: &mut Site, ops: &mut Vec<Op>, change: Change) -> Result<(), AuthorFault>
+fn make(site: &mut KeptSite, ops: &mut Vec<Op>, change: Change) -> Result<(), AuthorFault>
     ensures ok { OnOk result (MakesOne change site.old site.new ops.old.items ops.new.items) }
     ensures err { IfErr result (RefusesOne change site.old) }
 {

@@ -16,8 +16,9 @@ use Rattle.gf_ops.specs.Accepted.{AreAccepted}
 use Rattle.gf_json.specs.OperationLines.{denoted}
 use Rattle.gf_json.specs.WrittenLines.{op_text}
 use Rattle.gf_site.specs.ReplicaState.{ReplicaState}
-use Rattle.gf_site.specs.SiteState.{at_site}
+use Rattle.gf_site.specs.SiteState.{SiteState, at_site}
 use Rattle.gf_replay.specs.Denoting.{AreLinesOf}
+use Rattle.gf_replay.specs.Behind.{Divides}
 use Rattle.gf_replay.specs.Waiting.{DenotesWaiting}
 use Rattle.gf_streams.specs.TextLines.{numbered_lines}
 use Rattle.gf_edit.specs.EntrySteps.{HoldsBlocking, IsUnblocked}
@@ -34,8 +35,9 @@ use Rattle.gf_fig_read.specs.Objects.{Drawn}
 use Rattle.gf_run.specs.Answers.{GivesText, Refuses, WritesAnswer}
 use Rattle.gf_run.specs.RunAnswers.{WritesPrefix}
 use Rattle.gf_run.specs.RefusedRuns.{IsOfRun}
+use Rattle.gf_run.specs.declared.studio_error.StudioError.TheVariants as studio
 use Rattle.gf_site.specs.MadeEach.{MakesEach, next as each_next, none as each_none}
-use Rattle.gf_take.specs.Bases.{IsBase}
+use Rattle.gf_take.specs.Bases.{AreRead, IsBase}
 use Rattle.gf_take.specs.ShownDrawing.{LooksLike}
 use Rattle.gf_take.proofs.AlikeLemmas.{like_shows, like_takes}
 use Rattle.gf_take.proofs.FrontLemmas.{shown_paints}
@@ -59,41 +61,89 @@ use Rattle.gf_run.specs.declared.answering.Answer.{Answer}
 use Rattle.gf_take_run.specs.Parting.{IsParted}
 use Rattle.gf_take_run.specs.SeenDrawing.{AreThere, IsAbsent, IsNewer, since_drawing}
 use Rattle.gf_take_run.specs.TakenText.{DenotesDrawing, DenotesLines}
-use Rattle.gf_take_run.specs.TakeRun.{GoesBeyond, HasBase, HasBlockingLine, HasNewer, IsExhausted}
+use Rattle.gf_take_run.specs.TakeRun.{DenotesOps, GoesBeyond, HasBase, HasBlocking, HasNewer}
+use Rattle.gf_take_run.specs.TakeRun.{IsExhausted, RefusesFigText}
 use Rattle.gf_take_run.specs.TakeRun.{IsBehind, IsTakeOf, LooksOtherwise, ReadsBoth, ShowsMany}
 use Rattle.gf_take_run.specs.TakeRun.{StaysWithin, WritesTake}
 use Rattle.gf_take_run.specs.TakeRun.{RefusesParts, RefusesTaking, TakesText, of_take, input, parts}
-use Rattle.gf_take_run.specs.TakeSteps.{AreListed, AreWritten, IsBeyondMost, IsWrittenText}
+use Rattle.gf_take_run.specs.TakeSteps.{AreListed, IsBeyondMost}
+use Rattle.gf_take_run.specs.TakenBehind.{AreWritten, IsWrittenText}
 use Rattle.gf_take_run.specs.TakeSteps.{MakesBehind, MakesFrom, MakesOther, RefusesBase}
 use Rattle.gf_take_run.specs.TakeSteps.{RefusesBehind, RefusesDrawing, RefusesPlan, TakesFrom}
-use Rattle.gf_take_run.specs.TakeSteps.{TakesParts, TakesSo, told}
+use Rattle.gf_take_run.specs.TakeSteps.{TakesParts, told}
+use Rattle.gf_take_run.specs.TakenBehind.{TakesBehind, TakesSo}
 
 -- ---- what was read
 
-module _ (s : ℕ) (lines : List ℕ) (x : ReplicaState) (d : DenotesWaiting lines x.ops x.held) where
-  -- lines by which nothing is blocked denote the history
-  pub denotes_lines : AreAccepted x.ops → IsUnblocked (at_site s x) → DenotesLines s lines x.ops
-  denotes_lines accepted none = record {
-    ops = d.ops;
-    denoted = d.lines;
-    read = record {
-      delivers = d.delivers;
-      accepted = accepted;
-      free = none_blocks s d.ops x d.others none;
-    };
+module _ (s : ℕ) (known : List Op) (x : ReplicaState) (d : Divides known x.ops x.held) where
+  -- operations by which nothing is blocked are read
+  pub are_read : AreAccepted x.ops → IsUnblocked (at_site s x) → AreRead s known x.ops
+  are_read accepted none = record {
+    delivers = d.delivers;
+    accepted = accepted;
+    free = none_blocks s known x d.others none;
   }
 
-  -- what blocks the site is in the lines
-  pub has_blocking : (i j : OpId) → HoldsBlocking (at_site s x) i j → HasBlockingLine s lines i j
+  -- what blocks the site is among them
+  pub has_blocking : (i j : OpId) → HoldsBlocking (at_site s x) i j → HasBlocking s known i j
   has_blocking i j b = record {
     history = x.ops;
     waiting = x.held;
-    denoted = d;
+    divided = d;
     op = b.op;
-    blocking = first_blocks s d.ops x d.others b.op b.first;
+    blocking = first_blocks s known x d.others b.op b.first;
     named = b.named;
     waits = b.waits;
   }
+
+-- what lines denote is delivered, or waits
+pub lines_divided : (lines : List ℕ) (h waiting : List Op) (d : DenotesWaiting lines h waiting)
+    → Divides d.ops h waiting
+lines_divided lines h waiting d = record { delivers = d.delivers; others = d.others }
+
+-- what is refused behind operations is refused behind their lines
+pub lines_refused : (q : TakeRequest) (lines fig : List ℕ) (ops : List Op)
+    → AreLinesOf (numbered_lines lines) ops → (e : TakeRunError) → RefusesFigText q ops fig e
+    → RefusesParts q lines fig e
+lines_refused q lines fig ops denoted = cases
+  where
+    such : (Such : List Op → Type 0) → Such ops → DenotesOps lines Such
+    such Such f = record { ops = ops; denoted = denoted; such = f }
+
+    cases : (e : TakeRunError) → RefusesFigText q ops fig e → RefusesParts q lines fig e
+    cases (refused.Run studio.OutOfMemory) f = tt
+    cases (refused.Run studio.ReadFailed) f = absurd f
+    cases (refused.Run studio.TooLong) f = absurd f
+    cases (refused.Run (studio.Line n why)) f = absurd f
+    cases (refused.Run (studio.Dropped i why)) f = absurd f
+    cases (refused.Run (studio.Fig fault)) f = absurd f
+    cases (refused.Run (studio.Compile fault)) f = absurd f
+    cases (refused.Run (studio.NoObject o)) f = absurd f
+    cases (refused.Run studio.WriteFailed) f = absurd f
+    cases (refused.Waits i j) f = such _ f
+    cases refused.NoDrawing f = absurd f
+    cases (refused.Fig faults) f = such _ f
+    cases (refused.Figure broken) f = such _ f
+    cases refused.TooManyFigures f = such _ f
+    cases refused.Unnamed f = such _ f
+    cases (refused.Absent i) f = such _ f
+    cases (refused.Older i j) f = such _ f
+    cases (refused.Behind i) f = such _ f
+    cases refused.Exhausted f = such _ f
+    cases refused.Differs f = such _ f
+
+module _ (lines : List ℕ) (h waiting : List Op) (d : DenotesWaiting lines h waiting) where
+  -- a site that read what the lines denote
+  pub lines_read : (s : ℕ) (r : Result SiteState TakeRunError)
+      → IfOk r (λ x. AreRead s d.ops x.ops) → IfOk r (λ x. DenotesLines s lines x.ops)
+  lines_read s (Ok x) read = record { ops = d.ops; denoted = d.lines; read = read }
+  lines_read s (Err e) read = tt
+
+  -- a site that was refused what the lines denote
+  pub lines_unread : (q : TakeRequest) (fig : List ℕ) (r : Result SiteState TakeRunError)
+      → IfErr r (RefusesFigText q d.ops fig) → IfErr r (RefusesParts q lines fig)
+  lines_unread q fig (Ok x) f = tt
+  lines_unread q fig (Err e) f = lines_refused q lines fig d.ops d.lines e f
 
 -- ---- what is written
 
@@ -150,10 +200,9 @@ pub takes_so : (q : TakeRequest) (h : List Op) (fig : List ℕ) (drawing : Drawn
     → CountsObjects hides m.ops.items t.value.hidden
     → CountsObjects creates m.ops.items t.value.drawn
     → t.value.since ≡ since_drawing q.site seen h → t.value.thin.items ≡ m.thin.items
-    → TakesSo q h fig drawing seen t
+    → TakesSo q h fig drawing seen m.ops.items t
 takes_so q h fig drawing seen m t there young behind text made changed hidden drawn since thin =
     record {
-      new = m.ops.items;
       taken = record {
         there = there;
         young = young;
@@ -302,11 +351,12 @@ behind_refused q h fig d seen e there young (inl is) =
 behind_refused q h fig d seen e there young (inr f) =
     base_refuses q h f.base fig d seen e there young f.is_base f.refused
 
-module _ (q : TakeRequest) (lines fig : List ℕ) (h : List Op) (read : DenotesLines q.site lines h)
-    (drawing : Drawn) (seen : Clock) (drawn : DenotesDrawing fig drawing seen) where
-  pub parts_taken : (t : Answer Taken) → TakesSo q h fig drawing seen t → TakesParts q lines fig t
-  parts_taken t p = record {
-    history = h;
+module _ (q : TakeRequest) (known : List Op) (fig : List ℕ) (h : List Op)
+    (read : AreRead q.site known h) (drawing : Drawn) (seen : Clock)
+    (drawn : DenotesDrawing fig drawing seen) where
+  pub taken_behind : (new : List Op) (t : Answer Taken) → TakesSo q h fig drawing seen new t
+      → TakesBehind q known h fig new t
+  taken_behind new t p = record {
     read = read;
     drawing = drawing;
     seen = seen;
@@ -315,7 +365,7 @@ module _ (q : TakeRequest) (lines fig : List ℕ) (h : List Op) (read : DenotesL
   }
 
   both : (Such : List Op → Drawn → Clock → Type 0) → Such h drawing seen
-      → ReadsBoth q.site lines fig Such
+      → ReadsBoth q.site known fig Such
   both Such such = record {
     history = h;
     read = read;
@@ -325,17 +375,17 @@ module _ (q : TakeRequest) (lines fig : List ℕ) (h : List Op) (read : DenotesL
     such = such;
   }
 
-  pub parts_refused : (e : DrawingError) → RefusesDrawing q h fig drawing seen e
-      → RefusesParts q lines fig (told e)
-  parts_refused (error.Absent i) f = both (λ h drawing seen. IsAbsent seen h i) f
-  parts_refused (error.Older i j) f = both (HasNewer q.site i j) f
-  parts_refused error.TooManyFigures f = inr (both (HasBase q.site ShowsMany) f)
-  parts_refused (error.Figure broken) f =
+  pub refused_behind : (e : DrawingError) → RefusesDrawing q h fig drawing seen e
+      → RefusesFigText q known fig (told e)
+  refused_behind (error.Absent i) f = both (λ h drawing seen. IsAbsent seen h i) f
+  refused_behind (error.Older i j) f = both (HasNewer q.site i j) f
+  refused_behind error.TooManyFigures f = inr (both (HasBase q.site ShowsMany) f)
+  refused_behind (error.Figure broken) f =
       (both (HasBase q.site (GoesBeyond broken.object broken.fault)) f.0, f.1)
-  parts_refused (error.Behind i) f = both (HasBase q.site (IsBehind q.site q.after i)) f
-  parts_refused error.Exhausted f = both (HasBase q.site (IsExhausted q.site)) f
-  parts_refused error.Differs f = both (HasBase q.site LooksOtherwise) f
-  parts_refused error.OutOfMemory f = tt
+  refused_behind (error.Behind i) f = both (HasBase q.site (IsBehind q.site q.after i)) f
+  refused_behind error.Exhausted f = both (HasBase q.site (IsExhausted q.site)) f
+  refused_behind error.Differs f = both (HasBase q.site LooksOtherwise) f
+  refused_behind error.OutOfMemory f = tt
 
 -- ---- the whole text
 
@@ -343,14 +393,14 @@ module _ (q : TakeRequest) (bytes lines fig : List ℕ) (parted : IsParted bytes
   pub text_taken : (r : Result (Answer Taken) TakeRunError) → IfOk r (TakesParts q lines fig)
       → IfOk r (λ t. TakesText q bytes t.text.items t.value)
   text_taken (Err e) p = tt
-  text_taken (Ok t) p = record {
-    new = p.takes.new;
+  text_taken (Ok t) is = let p = is.takes in record {
+    new = is.new;
     denoted = record {
       lines = lines;
       fig = fig;
       parted = parted;
-      history = p.history;
-      read = p.read;
+      history = is.history;
+      read = record { ops = is.ops; denoted = is.denoted; read = p.read };
       drawing = p.drawing;
       seen = p.seen;
       drawn = p.drawn;
@@ -359,7 +409,7 @@ module _ (q : TakeRequest) (bytes lines fig : List ℕ) (parted : IsParted bytes
     within = p.takes.within;
     lines = p.takes.text.lines;
     written = p.takes.text.written.is;
-    denotes = written_denotes p.takes.new p.takes.text.lines p.takes.text.written;
+    denotes = written_denotes is.new p.takes.text.lines p.takes.text.written;
     shown = p.takes.text.shown;
     shows = p.takes.text.shows;
     is = p.takes.text.is;

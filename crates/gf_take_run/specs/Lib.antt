@@ -11,3 +11,4 @@ pub mod CountedChanges
 pub mod TakenText
 pub mod TakeRun
 pub mod TakeSteps
+pub mod TakenBehind

@@ -1,7 +1,6 @@
 -- What the run of a take writes, and why it is refused (this project's choice).
 use Rattle.std.specs.Prelude.{◌≡◌, ◌⊎◌, ◌<◌, ◌≤◌, ℕ, ◌+◌, List, [], ◌++◌, Option, None, Some}
-use Rattle.std.specs.Prelude.{length}
-use Rattle.std.specs.Prelude.{IfSome}
+use Rattle.std.specs.Prelude.{IfSome, length, ⊤}
 use Rattle.std.specs.Prelude.{slice_get}
 use Rattle.gf_shape.specs.declared.outline.Outline.{Outline}
 use Rattle.gf_streams.specs.TextLines.{numbered_lines}
@@ -12,7 +11,7 @@ use Rattle.gf_ops.specs.OperationOrder.{count_of}
 use Rattle.gf_ops.specs.declared.change.Change.{Change}
 use Rattle.gf_causal.specs.Waiting.{waits_for}
 use Rattle.gf_replay.specs.Denoting.{AreLinesOf}
-use Rattle.gf_replay.specs.Waiting.{DenotesWaiting}
+use Rattle.gf_replay.specs.Behind.{Divides}
 use Rattle.gf_versions.specs.declared.ranking.TheConstants.{MOST_VERSIONS}
 use Rattle.gf_fig_named.specs.ThinPolygons.{AreThinOf}
 use Rattle.gf_fig_faults.specs.DrawingFaults.{AreFaults, HasFirst, most_told}
@@ -26,12 +25,13 @@ use Rattle.gf_objects.specs.declared.figure_fault.FigureFault.{FigureFault}
 use Rattle.gf_objects.specs.StartFaults.{figure_fault}
 use Rattle.gf_fig_named.specs.Known.{AreCounts, TellsKnown}
 use Rattle.gf_run.specs.declared.studio_error.StudioError.{StudioError}
+use Rattle.gf_run.specs.declared.studio_error.StudioError.TheVariants as studio
 use Rattle.gf_run.specs.RefusedRuns.{IsOfRun, RefusesReading}
 use Rattle.gf_run.specs.RunAnswers.{WritesText}
 use Rattle.gf_edit.specs.EditRun.{IsFirstBlocking}
 use Rattle.gf_edit.specs.MadeOperations.{made_of}
 use Rattle.gf_edit.specs.Making.{written_lines}
-use Rattle.gf_take.specs.Bases.{IsBase}
+use Rattle.gf_take.specs.Bases.{AreRead, IsBase}
 use Rattle.gf_take.specs.ShownDrawing.{LooksLike}
 use Rattle.gf_take.specs.Taking.{HasRefusal}
 use Rattle.gf_take_run.specs.declared.take_run_error.TakeRunError.{TakeRunError}
@@ -41,7 +41,7 @@ use Rattle.gf_take_run.specs.declared.request.TakeRequest.{TakeRequest}
 use Rattle.gf_take_run.specs.ShownText.{IsShownText}
 use Rattle.gf_take_run.specs.Parting.{BeginsFig, IsParted}
 use Rattle.gf_take_run.specs.SeenDrawing.{AreThere, IsAbsent, IsNewer, since_drawing}
-use Rattle.gf_take_run.specs.TakenText.{DenotesDrawing, DenotesLines, DenotesTake}
+use Rattle.gf_take_run.specs.TakenText.{DenotesDrawing, DenotesTake}
 use Rattle.gf_take_run.specs.ToldNumbers.{CountsObjects, alters, creates, hides}
 
 -- the base has at most so many operations of site s, or nothing new is made
@@ -77,20 +77,20 @@ WritesTake q bytes taken old new = WritesText (λ text. TakesText q bytes text t
 abbrev pub IsTakeOf : TakeRequest → List ℕ → List ℕ → Type 0
 IsTakeOf q bytes text = (taken : Taken) × TakesText q bytes text taken
 
--- of the operations that block site s, i has the least id, and waits for j
-pub record HasBlockingLine (s : ℕ) (lines : List ℕ) (i j : OpId) : Type 0 where
+-- of the known operations that block site s, i has the least id, and waits for j
+pub record HasBlocking (s : ℕ) (known : List Op) (i j : OpId) : Type 0 where
   pub history : List Op
   pub waiting : List Op
-  pub denoted : DenotesWaiting lines history waiting
+  pub divided : Divides known history waiting
   pub op : Op
-  pub blocking : IsFirstBlocking s history denoted.ops op
+  pub blocking : IsFirstBlocking s history known op
   pub named : i ≡ op.id
   pub waits : j ≡ waits_for history op
 
--- the lines denote a history for site s, and this holds of it
-pub record ReadsLines (s : ℕ) (lines : List ℕ) (Such : List Op → Type 0) : Type 0 where
+-- the known operations deliver a history for site s, and this holds of it
+pub record ReadsLines (s : ℕ) (known : List Op) (Such : List Op → Type 0) : Type 0 where
   pub history : List Op
-  pub read : DenotesLines s lines history
+  pub read : AreRead s known history
   pub such : Such history
 
 -- the FIG text reads as a drawing of more than 1,000 figures
@@ -106,11 +106,11 @@ pub record IsUnnamed (fig : List ℕ) : Type 0 where
   pub few : length drawing.figures ≤ MOST_VERSIONS
   pub silent : (c : Clock) → AreCounts c → ¬ (TellsKnown fig c)
 
--- both parts were read, and this holds of the history and what the drawing knew
-pub record ReadsBoth (s : ℕ) (lines fig : List ℕ)
+-- the operations and the FIG text were read, and this holds of the history and what the drawing knew
+pub record ReadsBoth (s : ℕ) (known : List Op) (fig : List ℕ)
     (Such : List Op → Drawn → Clock → Type 0) : Type 0 where
   pub history : List Op
-  pub read : DenotesLines s lines history
+  pub read : AreRead s known history
   pub drawing : Drawn
   pub seen : Clock
   pub drawn : DenotesDrawing fig drawing seen
@@ -173,28 +173,40 @@ pub record HasNewer (s : ℕ) (i j : OpId) (h : List Op) (drawing : Drawn) (seen
   pub named : i ≡ op.id
   pub names : j ≡ known.id
 
--- why nothing is taken of these operation lines and this FIG text; want of memory may come with any
+-- why nothing is taken of this FIG text behind the known operations; want of memory may come with any
+abbrev pub RefusesFigText : TakeRequest → List Op → List ℕ → TakeRunError → Type 0
+RefusesFigText q known fig (refused.Run studio.OutOfMemory) = ⊤
+RefusesFigText q known fig (refused.Run e) = ⊥
+RefusesFigText q known fig (refused.Waits i j) = HasBlocking q.site known i j
+RefusesFigText q known fig (refused.Fig faults) = ReadsLines q.site known
+    (λ h. HasFirst fig faults × AreFaults most_told None fig faults)
+RefusesFigText q known fig refused.TooManyFigures = ReadsLines q.site known (λ h. HasManyFigures fig)
+    ⊎ ReadsBoth q.site known fig (HasBase q.site ShowsMany)
+RefusesFigText q known fig refused.Unnamed = ReadsLines q.site known (λ h. IsUnnamed fig)
+RefusesFigText q known fig (refused.Absent i) =
+    ReadsBoth q.site known fig (λ h drawing seen. IsAbsent seen h i)
+RefusesFigText q known fig (refused.Older i j) = ReadsBoth q.site known fig (HasNewer q.site i j)
+RefusesFigText q known fig (refused.Figure broken) =
+    ReadsBoth q.site known fig (HasBase q.site (GoesBeyond broken.object broken.fault))
+    × BeginsOn fig broken.object broken.line
+RefusesFigText q known fig (refused.Behind i) =
+    ReadsBoth q.site known fig (HasBase q.site (IsBehind q.site q.after i))
+RefusesFigText q known fig refused.Exhausted =
+    ReadsBoth q.site known fig (HasBase q.site (IsExhausted q.site))
+RefusesFigText q known fig refused.Differs =
+    ReadsBoth q.site known fig (HasBase q.site LooksOtherwise)
+RefusesFigText q known fig refused.NoDrawing = ⊥
+
+-- the lines denote operations of which this holds
+pub record DenotesOps (lines : List ℕ) (Such : List Op → Type 0) : Type 0 where
+  pub ops : List Op
+  pub denoted : AreLinesOf (numbered_lines lines) ops
+  pub such : Such ops
+
+-- why nothing is taken of these operation lines and this FIG text
 abbrev pub RefusesParts : TakeRequest → List ℕ → List ℕ → TakeRunError → Type 0
 RefusesParts q lines fig (refused.Run e) = RefusesReading lines e
-RefusesParts q lines fig (refused.Waits i j) = HasBlockingLine q.site lines i j
-RefusesParts q lines fig (refused.Fig faults) = ReadsLines q.site lines
-    (λ h. HasFirst fig faults × AreFaults most_told None fig faults)
-RefusesParts q lines fig refused.TooManyFigures = ReadsLines q.site lines (λ h. HasManyFigures fig)
-    ⊎ ReadsBoth q.site lines fig (HasBase q.site ShowsMany)
-RefusesParts q lines fig refused.Unnamed = ReadsLines q.site lines (λ h. IsUnnamed fig)
-RefusesParts q lines fig (refused.Absent i) =
-    ReadsBoth q.site lines fig (λ h drawing seen. IsAbsent seen h i)
-RefusesParts q lines fig (refused.Older i j) = ReadsBoth q.site lines fig (HasNewer q.site i j)
-RefusesParts q lines fig (refused.Figure broken) =
-    ReadsBoth q.site lines fig (HasBase q.site (GoesBeyond broken.object broken.fault))
-    × BeginsOn fig broken.object broken.line
-RefusesParts q lines fig (refused.Behind i) =
-    ReadsBoth q.site lines fig (HasBase q.site (IsBehind q.site q.after i))
-RefusesParts q lines fig refused.Exhausted =
-    ReadsBoth q.site lines fig (HasBase q.site (IsExhausted q.site))
-RefusesParts q lines fig refused.Differs =
-    ReadsBoth q.site lines fig (HasBase q.site LooksOtherwise)
-RefusesParts q lines fig refused.NoDrawing = ⊥
+RefusesParts q lines fig e = DenotesOps lines (λ known. RefusesFigText q known fig e)
 
 -- the bytes are these two parts, and nothing is taken of them
 pub record RefusesParted (q : TakeRequest) (bytes : List ℕ) (e : TakeRunError) : Type 0 where

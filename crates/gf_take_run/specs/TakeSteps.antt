@@ -1,21 +1,20 @@
 -- What a take makes of what was read. No public clause cites this module.
-use Rattle.std.specs.Prelude.{◌≡◌, ◌≢◌, ◌⊎◌, ◌<◌, ◌≤◌, ℕ, Bool, List, [], ◌++◌, All, Contains}
-use Rattle.std.specs.Prelude.{None, Ok, Option, Some, length, ⊤}
+use Rattle.std.specs.Prelude.{◌≡◌, ◌≢◌, ◌⊎◌, ◌<◌, ◌≤◌, ℕ, List, [], ◌++◌, All}
+use Rattle.std.specs.Prelude.{None, Option, Some, length, ⊤}
 use Rattle.gf_ops.specs.declared.op.Op.{Op}
 use Rattle.gf_ops.specs.declared.op.OpId.{OpId}
 use Rattle.gf_ops.specs.declared.op.Clock.{Clock}
 use Rattle.gf_ops.specs.declared.change.Change.{Change}
 use Rattle.gf_ops.specs.OperationOrder.{IsSite, count_of, entry}
 use Rattle.gf_json.specs.OperationLines.{denoted}
-use Rattle.gf_json.specs.WrittenLines.{op_text}
 use Rattle.gf_fig_named.specs.ThinPolygons.{AreThinOf}
 use Rattle.gf_fig_read.specs.Objects.{Drawn}
 use Rattle.gf_run.specs.declared.studio_error.StudioError.TheVariants as studio
-use Rattle.gf_edit.specs.MadeOperations.{made_of}
-use Rattle.gf_edit.specs.Making.{written_lines}
 use Rattle.gf_fig_read.specs.FaultLines.{BeginsOn}
 use Rattle.gf_site.specs.declared.faults.AuthorFault.TheVariants as author
 use Rattle.gf_take.specs.Bases.{IsBase}
+use Rattle.gf_replay.specs.Denoting.{AreLinesOf}
+use Rattle.gf_streams.specs.TextLines.{numbered_lines}
 use Rattle.gf_take.specs.ShownDrawing.{LooksLike}
 use Rattle.gf_take.specs.Taking.{HasMade, HasRefusal, Takes}
 use Rattle.gf_shape.specs.declared.any_shape.AnyShape.{AnyShape}
@@ -34,26 +33,13 @@ use Rattle.gf_take_run.specs.ChangedObjects.{MayChange}
 use Rattle.gf_take_run.specs.LeftObjects.{LeavesStanding}
 use Rattle.gf_take_run.specs.ShownText.{IsShownText}
 use Rattle.gf_take_run.specs.declared.request.TakeRequest.{TakeRequest}
+use Rattle.gf_take_run.specs.TakenBehind.{TakesBehind}
 use Rattle.gf_take_run.specs.ToldNumbers.{CountsObjects, alters, creates, hides}
 use Rattle.gf_take_run.specs.declared.take_run_error.TakeRunError.{TakeRunError}
 use Rattle.gf_take_run.specs.declared.take_run_error.TakeRunError.TheVariants as refused
-use Rattle.gf_take_run.specs.SeenDrawing.{IsAbsent, IsNewer, since_drawing}
-use Rattle.gf_take_run.specs.TakenText.{DenotesDrawing, DenotesLines, TakesDrawing}
+use Rattle.gf_take_run.specs.SeenDrawing.{IsAbsent, IsNewer}
 use Rattle.gf_take_run.specs.TakeRun.{BreaksLimit, GoesBeyond, HasBase, HasNewer, IsExhausted}
 use Rattle.gf_take_run.specs.TakeRun.{IsBehind, LooksOtherwise, ShowsMany, StaysWithin}
-
--- the text has the lines of operations, each of which is read again
-pub record AreWritten (new : List Op) (text : List ℕ) : Type 0 where
-  pub is : text ≡ written_lines new
-  pub reads : (a : Op) → Contains new a → denoted (op_text a) ≡ Ok a
-
--- the text has the lines of operations, and behind them what is shown of h with these
-pub record IsWrittenText (named : Bool) (h new : List Op) (text : List ℕ) : Type 0 where
-  pub lines : List ℕ
-  pub written : AreWritten new lines
-  pub shown : List ℕ
-  pub shows : IsShownText named (h ++ new) shown
-  pub is : text ≡ lines ++ shown
 
 -- site s makes new operations behind its base b, each of an object that b shows or the text names,
 -- and shows the drawing. It makes none where b looks like the drawing, or has more than so many of
@@ -108,6 +94,7 @@ pub record MakesBehind (q : TakeRequest) (h : List Op) (fig : List ℕ) (drawing
   pub base : List Op
   pub is_base : IsBase q.site seen h base
   pub taken : TakesFrom q.site q.after base fig drawing made.ops.items
+  pub site : made.site.ops ≡ h ++ made.ops.items
   pub thin : AreThinOf base made.thin.items
   pub text : IsShownText q.named (h ++ made.ops.items) made.text.items
 
@@ -116,20 +103,6 @@ pub record AreCounted (new : List Op) (numbers : Numbers) : Type 0 where
   pub changed : CountsObjects alters new numbers.changed
   pub hidden : CountsObjects hides new numbers.hidden
   pub drawn : CountsObjects creates new numbers.drawn
-
--- the site takes operations of the drawing behind what it knew of h, and they are written and told
-pub record TakesSo (q : TakeRequest) (h : List Op) (fig : List ℕ) (drawing : Drawn) (seen : Clock)
-    (t : Answer Taken) : Type 0 where
-  pub new : List Op
-  pub taken : TakesDrawing q.site h fig drawing seen new
-  pub within : StaysWithin q.site q.after taken.base new
-  pub text : IsWrittenText q.named h new t.text.items
-  pub made : t.value.made ≡ made_of new
-  pub changed : CountsObjects alters new t.value.changed
-  pub hidden : CountsObjects hides new t.value.hidden
-  pub drawn : CountsObjects creates new t.value.drawn
-  pub since : t.value.since ≡ since_drawing q.site seen h
-  pub thin : AreThinOf taken.base t.value.thin.items
 
 -- why site s makes nothing of the drawing behind its base
 abbrev pub RefusesBase : ℕ → Option ℕ → List Op → List ℕ → Drawn → DrawingError → Type 0
@@ -226,11 +199,10 @@ pub record IsBeyond (s : ℕ) (past known : Clock) (i : OpId) : Type 0 where
   pub last : i.seq ≡ entry past i.site
   pub fewer : entry known i.site < i.seq
 
--- the lines and the FIG text were read, and the site takes of them what is written and told
+-- the site takes of the lines and the FIG text what is written and told
 pub record TakesParts (q : TakeRequest) (lines fig : List ℕ) (t : Answer Taken) : Type 0 where
+  pub ops : List Op
+  pub denoted : AreLinesOf (numbered_lines lines) ops
   pub history : List Op
-  pub read : DenotesLines q.site lines history
-  pub drawing : Drawn
-  pub seen : Clock
-  pub drawn : DenotesDrawing fig drawing seen
-  pub takes : TakesSo q history fig drawing seen t
+  pub new : List Op
+  pub takes : TakesBehind q ops history fig new t

@@ -18,18 +18,19 @@ use crate::showing::listed;
 use gf_base::OutOfMemory;
 use gf_drawing::CompileFault;
 use gf_fig_named::named_bytes;
+use gf_kept::KeptSite;
 use gf_ops::{History, ObjectId, Op};
 use gf_shape::AnyShape;
-use gf_site::Site;
 use gf_take::{base_site, is_whole_base};
 use gf_versions::Ranked;
 use std::alloc::Global;
 
-/// The operations that a site made behind its base, the polygons of this that xfig does not keep,
-/// and the named text of all operations, where it was asked for.
+/// The operations that a site made behind its base, the site with these, the polygons of the base
+/// that xfig does not keep, and the named text of all operations, where it was asked for.
 #[derive(Drop)]
 pub(crate) struct MadeBehind {
     pub(crate) ops: Vec<Op>,
+    pub(crate) site: KeptSite,
     pub(crate) thin: Vec<ObjectId>,
     pub(crate) text: Vec<u8>,
 }
@@ -38,7 +39,7 @@ pub(crate) struct MadeBehind {
 /// site itself is the base, and what it shows at the end is what its text shows.
 pub(crate) fn make_behind(
     alloc: Global,
-    taker: Site,
+    taker: KeptSite,
     fig: &[u8],
     drawn: &ReadDrawing,
     request: TakeRequest,
@@ -57,10 +58,13 @@ pub(crate) fn make_behind(
         return Ok(shown_whole(alloc, made, request.named)?);
     }
     let base = base_site(alloc, request.site, taker.history(), &drawn.seen)?;
+    let base = KeptSite::of(alloc, base);
     let made = make_from(alloc, base, fig, drawn, request.after)?;
-    let text = text_with(alloc, taker, &made.ops, request.named)?;
+    let mut site = with_ops(alloc, taker, &made.ops)?;
+    let text = text_of_site(alloc, &mut site, request.named)?;
     Ok(MadeBehind {
         ops: made.ops,
+        site,
         thin: made.thin,
         text,
     })
@@ -71,6 +75,7 @@ fn shown_whole(alloc: Global, made: MadeFrom, named: bool) -> Result<MadeBehind,
     requires { AreListed made.site.ops made.shown }
     ensures ops { IfOk result (λ whole. whole.ops ≡ made.ops) }
     ensures thin { IfOk result (λ whole. whole.thin ≡ made.thin) }
+    ensures site { IfOk result (λ whole. whole.site ≡ made.site) }
     ensures text { IfOk result (λ whole. IsShownText named made.site.ops whole.text.items) }
 {
     let MadeFrom {
@@ -84,28 +89,36 @@ fn shown_whole(alloc: Global, made: MadeFrom, named: bool) -> Result<MadeBehind,
     } else {
         Vec::new(alloc)
     };
-    Ok(MadeBehind { ops, thin, text })
+    Ok(MadeBehind {
+        ops,
+        site,
+        thin,
+        text,
+    })
 }
 
-/// The named text of a site with these operations behind its own, where it is asked for.
-fn text_with(
-    alloc: Global,
-    mut taker: Site,
-    new: &[Op],
-    named: bool,
-) -> Result<Vec<u8>, OutOfMemory>
+/// A site with these operations behind its own.
+fn with_ops(alloc: Global, mut taker: KeptSite, new: &[Op]) -> Result<KeptSite, OutOfMemory>
     requires in_range { (a : Op) → Contains new.now a → IsInRange a }
     requires accepted { AreAccepted (taker.ops ++ new.now) }
-    ensures { IfOk result (λ text. IsShownText named (taker.ops ++ new.now) text.items) }
+    ensures { IfOk result (λ site. site.ops ≡ taker.ops ++ new.now) }
+{
+    for op in new {
+        taker.add(op.copy(alloc)?)?;
+    }
+    Ok(taker)
+}
+
+/// The named text of a site, where it is asked for.
+fn text_of_site(alloc: Global, site: &mut KeptSite, named: bool) -> Result<Vec<u8>, OutOfMemory>
+    ensures same { site.new ≡ site.old }
+    ensures text { IfOk result (λ text. IsShownText named site.old.ops text.items) }
 {
     if !named {
         return Ok(Vec::new(alloc));
     }
-    for op in new {
-        taker.add(op.copy(alloc)?)?;
-    }
-    match listed(alloc, &taker)? {
-        Some(ranked) => named_text(alloc, taker.history(), ranked),
+    match listed(alloc, site)? {
+        Some(ranked) => named_text(alloc, site.history(), ranked),
         None => Ok(Vec::new(alloc)),
     }
 }

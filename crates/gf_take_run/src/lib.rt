@@ -2,6 +2,7 @@
 //! of one site's new operations, which show what the text shows.
 //!
 //! - [`take_run`]: reads both, and writes the new operations, as a [`TakeRequest`] asks.
+//! - [`take_behind`]: the same behind the operations of a replica, which stays as it is.
 //! - [`Taken`]: what is told of them.
 //! - [`TakeRunError`]: why nothing is taken; [`BrokenLimit`]: the figure that no operation can
 //!   make.
@@ -32,3 +33,4 @@ pub use request::TakeRequest;
 pub use run::take_run;
 pub use take_run_error::TakeRunError;
 pub use taken::Taken;
+pub use taking::{TakenDrawing, take_behind};

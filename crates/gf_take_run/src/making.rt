@@ -13,9 +13,9 @@ use crate::planning::{Making, make_planned};
 use crate::reading::ReadDrawing;
 use crate::showing::{Shown, are_on_shown, shown_by};
 use gf_fig_named::names_of;
+use gf_kept::KeptSite;
 use gf_ops::{ObjectId, Op, OpId};
 use gf_shape::AnyShape;
-use gf_site::Site;
 use gf_take::{looks_like, shows};
 use gf_versions::Ranked;
 use std::alloc::Global;
@@ -24,7 +24,7 @@ use std::alloc::Global;
 /// that xfig does not keep.
 #[derive(Drop)]
 pub(crate) struct MadeFrom {
-    pub(crate) site: Site,
+    pub(crate) site: KeptSite,
     pub(crate) ops: Vec<Op>,
     pub(crate) shown: Ranked<AnyShape>,
     pub(crate) thin: Vec<ObjectId>,
@@ -34,7 +34,7 @@ pub(crate) struct MadeFrom {
 /// the base has at most so many operations of the site.
 pub(crate) fn make_from(
     alloc: Global,
-    base: Site,
+    mut base: KeptSite,
     fig: &[u8],
     drawn: &ReadDrawing,
     after: Option<u32>,
@@ -47,7 +47,7 @@ pub(crate) fn make_from(
 {
     // The clauses of `history` say that the base is accepted and valid.
     let _ = base.history();
-    let shown = shown_by(alloc, &base)?;
+    let shown = shown_by(alloc, &mut base)?;
     if looks_like(alloc, &shown.versions.items, &drawn.drawing)? {
         return Ok(MadeFrom {
             site: base,
@@ -65,7 +65,7 @@ pub(crate) fn make_from(
 /// What a site makes of a drawing that its base does not look like.
 fn make_other(
     alloc: Global,
-    base: Site,
+    base: KeptSite,
     shown: Shown,
     fig: &[u8],
     drawn: &ReadDrawing,
@@ -107,7 +107,7 @@ fn make_other(
 }
 
 /// The last operation of a site, where there are more than so many.
-fn beyond(base: &Site, after: Option<u32>) -> Option<OpId>
+fn beyond(base: &KeptSite, after: Option<u32>) -> Option<OpId>
     ensures some { IfSome result (IsBeyondMost base.now.number after base.now.ops) }
     ensures none { IfNone result
         (IfSome after (λ n. count_of base.now.ops base.now.number ≤ n)) }

@@ -27,11 +27,12 @@ use gf_fig_read::object_line;
 use gf_figures::Drawing;
 use gf_groups::{GroupFault, is_made};
 use gf_inspect::versions_with;
+use gf_kept::KeptSite;
 use gf_listing::Versions;
 use gf_objects::{object_of, start_fault, start_of};
 use gf_ops::{Change, ObjectId, Op};
 use gf_shape::{AnyShape, Outline};
-use gf_site::{AuthorFault, Site};
+use gf_site::AuthorFault;
 use gf_take::make_all;
 use gf_versions::{MOST_VERSIONS, Placed, Ranked, Version};
 use std::alloc::Global;
@@ -39,7 +40,7 @@ use std::alloc::Global;
 /// A site at work behind its base, with the operations that it made there.
 #[derive(Drop)]
 pub(crate) struct Making {
-    pub(crate) site: Site,
+    pub(crate) site: KeptSite,
     pub(crate) ops: Vec<Op>,
 }
 
@@ -156,7 +157,7 @@ fn make_more(
         Err(fault) => return Err(refusal(fault)),
     };
     add_all(&mut making.ops, more)?;
-    match listed(alloc, &making.site)? {
+    match listed(alloc, &mut making.site)? {
         Some(shown) => Ok(shown),
         None => Err(DrawingError::Differs),
     }
@@ -231,7 +232,7 @@ fn broken_at(
 /// The changes that show hidden versions again, each of which a figure names and looks like.
 fn restorations(
     alloc: Global,
-    base: &Site,
+    base: &KeptSite,
     shown: &[Version],
     targets: &[Target],
 ) -> Result<Vec<Change>, OutOfMemory> {
@@ -256,7 +257,7 @@ fn restorations(
 /// them. An object of more versions than a drawing has stays hidden.
 fn restore(
     alloc: Global,
-    base: &Site,
+    base: &KeptSite,
     object: ObjectId,
     targets: &[Target],
     wanted: &[Option<ObjectId>],
@@ -285,7 +286,7 @@ fn restore(
 /// not shown again already.
 fn show_again(
     alloc: Global,
-    base: &Site,
+    base: &KeptSite,
     versions: &[Version],
     figure: &Target,
     changes: &mut Vec<Change>,

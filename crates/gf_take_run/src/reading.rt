@@ -5,8 +5,11 @@ ghost use Rattle.gf_fig_named.specs.NamedFigures.{AreNamed};
 ghost use Rattle.gf_ops.specs.declared.op.Op.{Op};
 ghost use Rattle.gf_ops.specs.OperationOrder.{IsSite};
 ghost use Rattle.gf_run.specs.RefusedRuns.{IsBetween};
+ghost use Rattle.gf_replay.specs.Behind.{Divides};
+ghost use Rattle.gf_take.specs.Bases.{AreRead};
+ghost use Rattle.gf_site.specs.SiteState.{at_site};
 ghost use Rattle.gf_take_run.specs.TakenText.{DenotesDrawing, DenotesLines};
-ghost use Rattle.gf_take_run.specs.TakeRun.{RefusesParts, of_take};
+ghost use Rattle.gf_take_run.specs.TakeRun.{RefusesFigText, RefusesParts, of_take};
 ghost use Rattle.gf_take_run.specs.declared.request.TakeRequest.{TakeRequest};
 
 use crate::{TakeRequest, TakeRunError};
@@ -22,7 +25,7 @@ use gf_ops::Clock;
 use gf_replay::read_replica;
 use gf_run::StudioError;
 use gf_shape::Outline;
-use gf_site::Site;
+use gf_site::{Replica, Site};
 use gf_versions::MOST_VERSIONS;
 use std::alloc::Global;
 use std::thread::Threads;
@@ -46,9 +49,22 @@ pub(crate) fn read_lines<T: Threads + Sync>(
         Ok(replica) => replica,
         Err(fault) => return Err(TakeRunError::Run(StudioError::from(fault))),
     };
+    taker_of(alloc, replica, request.site)
+}
+
+/// The site that has what a replica has, where nothing that waits there blocks it.
+pub(crate) fn taker_of(alloc: Global, replica: Replica, site: u8) -> Result<Site, TakeRunError>
+    requires site { IsSite site }
+    ensures ok { (known : List Op) → Divides known replica.ops replica.held
+        → IfOk result (λ x. AreRead site known x.ops) }
+    ensures same { IfOk result (λ x. x ≡ at_site site replica) }
+    ensures refused { (q : TakeRequest) (known : List Op) (fig : List ℕ) → q.site ≡ site
+        → Divides known replica.ops replica.held → IfErr result (RefusesFigText q known fig) }
+    ensures between { IfErr result (λ e. IfSome (of_take e) IsBetween) }
+{
     // The clause of `history` says that each operation was accepted.
     let _ = replica.history();
-    let taker = Site::with_replica(alloc, request.site, replica);
+    let taker = Site::with_replica(alloc, site, replica);
     match check_waiting(alloc, &taker) {
         Ok(()) => Ok(taker),
         Err(EditError::Waits(id, other)) => Err(TakeRunError::Waits(id, other)),
@@ -72,8 +88,8 @@ pub(crate) struct ReadDrawing {
 pub(crate) fn read_drawing(alloc: Global, fig: &[u8]) -> Result<ReadDrawing, TakeRunError>
     ensures ok { IfOk result (λ read. DenotesDrawing fig.now read.drawing read.seen) }
     ensures named { IfOk result (λ read. AreNamed fig.now read.drawing read.names.items) }
-    ensures refused { (q : TakeRequest) (lines : List ℕ) (h : List Op)
-        → DenotesLines q.site lines h → IfErr result (RefusesParts q lines fig.now) }
+    ensures refused { (q : TakeRequest) (known h : List Op) → AreRead q.site known h
+        → IfErr result (RefusesFigText q known fig.now) }
     ensures between { IfErr result (λ e. IfSome (of_take e) IsBetween) }
 {
     let drawing = match read_fig(alloc, fig) {
@@ -113,8 +129,8 @@ fn targets_of(
 
 /// Why a FIG text that can't be read is not taken.
 fn fig_refusal(alloc: Global, fig: &[u8]) -> TakeRunError
-    ensures refused { (q : TakeRequest) (lines : List ℕ) (h : List Op)
-        → DenotesLines q.site lines h → RefusesParts q lines fig.now result }
+    ensures refused { (q : TakeRequest) (known h : List Op) → AreRead q.site known h
+        → RefusesFigText q known fig.now result }
     ensures between { IfSome (of_take result) IsBetween }
 {
     match drawing_faults(alloc, fig) {

@@ -1,7 +1,7 @@
 //! What a site shows, and what xfig does not keep of it.
 
-ghost use Rattle.std.specs.Prelude.{◌≡◌, ◌↔◌, ◌++◌, ℕ, All, Contains, IfErr, IfOk, IsTrue, List};
-ghost use Rattle.std.specs.Prelude.{IfNone, IfSome, Option, codes, true};
+ghost use Rattle.std.specs.Prelude.{◌≡◌, ◌↔◌, ℕ, All, IfErr, IfOk, IsTrue, List};
+ghost use Rattle.std.specs.Prelude.{IfNone, IfSome, Option, true};
 ghost use Rattle.gf_ops.specs.declared.op.Op.{Op};
 ghost use Rattle.gf_versions.specs.Ranking.{AreRanked};
 ghost use Rattle.gf_fig_named.specs.ThinPolygons.{AreThinOf};
@@ -17,12 +17,10 @@ use crate::drawing_error::DrawingError;
 use gf_base::OutOfMemory;
 use gf_fig_named::thin_polygons;
 use gf_fig_tokens::cut_line;
-use gf_listing::Versions;
+use gf_kept::KeptSite;
 use gf_ops::{Change, ObjectId, Op, push_id};
 use gf_shape::AnyShape;
-use gf_site::Site;
-use gf_versions::{MOST_VERSIONS, Placed, Ranked};
-use gf_visible::ranked_within;
+use gf_versions::{Placed, Ranked};
 use std::alloc::Global;
 
 /// The visible versions of a site, topmost first.
@@ -34,11 +32,12 @@ pub(crate) struct Shown {
 }
 
 /// What a site shows, if it is no more than a drawing has.
-pub(crate) fn shown_by(alloc: Global, base: &Site) -> Result<Shown, DrawingError>
-    ensures versions { IfOk result (λ shown. AreListed base.now.ops shown.versions) }
-    ensures thin { IfOk result (λ shown. AreThinOf base.now.ops shown.thin.items) }
+pub(crate) fn shown_by(alloc: Global, base: &mut KeptSite) -> Result<Shown, DrawingError>
+    ensures same { base.new ≡ base.old }
+    ensures versions { IfOk result (λ shown. AreListed base.old.ops shown.versions) }
+    ensures thin { IfOk result (λ shown. AreThinOf base.old.ops shown.thin.items) }
     ensures refused { (after : Option ℕ) (fig : List ℕ) (d : Drawn) → IfErr result
-        (RefusesBase base.now.number after base.now.ops fig d) }
+        (RefusesBase base.old.number after base.old.ops fig d) }
 {
     match listed(alloc, base)? {
         None => Err(DrawingError::TooManyFigures),
@@ -50,12 +49,16 @@ pub(crate) fn shown_by(alloc: Global, base: &Site) -> Result<Shown, DrawingError
 }
 
 /// The visible versions of a site, if they are no more than a drawing has.
-pub(crate) fn listed(alloc: Global, site: &Site) -> Result<Option<Ranked<AnyShape>>, OutOfMemory>
-    ensures some { IfOk result (λ found. IfSome found (AreListed site.now.ops)) }
+pub(crate) fn listed(
+    alloc: Global,
+    site: &mut KeptSite,
+) -> Result<Option<Ranked<AnyShape>>, OutOfMemory>
+    ensures same { site.new ≡ site.old }
+    ensures some { IfOk result (λ found. IfSome found (AreListed site.old.ops)) }
     ensures none { IfOk result (λ found. IfNone found
-        (HasMoreVisible site.now.ops MOST_VERSIONS)) }
+        (HasMoreVisible site.old.ops MOST_VERSIONS)) }
 {
-    Ok(ranked_within(alloc, &Versions::of(site.indexed()), MOST_VERSIONS)?)
+    Ok(site.ranked(alloc)?)
 }
 
 /// Whether each operation creates an object, or is on one that has a version among these, or that

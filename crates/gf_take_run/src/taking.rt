@@ -8,24 +8,31 @@ ghost use Rattle.gf_run.specs.RefusedRuns.{IsBetween};
 ghost use Rattle.gf_edit.specs.MadeOperations.{made_of, made_until};
 ghost use Rattle.gf_ops.specs.declared.op.Op.{Op};
 ghost use Rattle.gf_take_run.specs.TakenText.{DenotesDrawing};
-ghost use Rattle.gf_take_run.specs.TakeRun.{RefusesParts, RefusesTaking, TakesText, of_take};
+ghost use Rattle.gf_take_run.specs.TakeRun.{RefusesFigText, RefusesParts, RefusesTaking};
+ghost use Rattle.gf_take_run.specs.TakeRun.{TakesText, of_take};
 ghost use Rattle.gf_take_run.specs.ShownText.{IsShownText};
-ghost use Rattle.gf_take_run.specs.TakeSteps.{AreWritten, IsWrittenText, RefusesDrawing};
-ghost use Rattle.gf_take_run.specs.TakeSteps.{TakesParts, TakesSo};
+ghost use Rattle.gf_take_run.specs.TakeSteps.{RefusesDrawing};
+ghost use Rattle.gf_take_run.specs.TakenBehind.{AreWritten, IsWrittenText};
+ghost use Rattle.gf_take_run.specs.TakeSteps.{TakesParts};
+ghost use Rattle.gf_take_run.specs.TakenBehind.{TakesBehind, TakesSo};
+ghost use Rattle.gf_kept.specs.Keeping.{Keeps};
+ghost use Rattle.gf_replay.specs.Behind.{Divides};
 
 use crate::behind::make_behind;
 use crate::counting::numbers_of;
 use crate::drawing_error::DrawingError;
 use crate::parting::{Parts, part};
-use crate::reading::{ReadDrawing, read_drawing, read_lines};
+use crate::reading::{ReadDrawing, read_drawing, read_lines, taker_of};
 use crate::seeing::{check_age, check_known, made_since};
 use crate::{TakeRequest, TakeRunError, Taken};
 use gf_base::OutOfMemory;
 use gf_edit::{Made, push_line};
+use gf_kept::{KeptSite, KeptVersions};
 use gf_ops::{Op, OpId};
 use gf_run::Answer;
-use gf_site::Site;
+use gf_site::Replica;
 use std::alloc::Global;
+use std::mem;
 use std::thread::Threads;
 
 /// What a site takes of these bytes: operation lines, and a FIG text behind them.
@@ -65,23 +72,61 @@ fn take_parts<T: Threads + Sync>(
 {
     let taker = read_lines(rt, alloc, parts.lines, request, workers)?;
     let drawn = read_drawing(alloc, &parts.fig)?;
-    Ok(take_drawing(alloc, taker, &parts.fig, &drawn, request)?)
+    let taker = KeptSite::of(alloc, taker);
+    let taken = take_drawing(alloc, taker, &parts.fig, &drawn, request)?;
+    Ok(taken.answer)
+}
+
+/// What a site takes of a FIG text behind the operations of a replica, and the site with what it
+/// made. The replica stays as it is. What is kept of its history goes to the site.
+pub fn take_behind(
+    alloc: Global,
+    replica: &Replica,
+    kept: &mut KeptVersions,
+    fig: &[u8],
+    request: TakeRequest,
+) -> Result<TakenDrawing, TakeRunError>
+    requires site { IsSite request.site }
+    requires keeps { Keeps replica.now.ops kept.old }
+    ensures keeps { Keeps replica.now.ops kept.new }
+    ensures ok { (known : List Op) → Divides known replica.now.ops replica.now.held
+        → IfOk result (λ t.
+        TakesBehind request known replica.now.ops fig.now t.ops.items t.answer) }
+    ensures site { IfOk result (λ t. t.site.ops ≡ replica.now.ops ++ t.ops.items) }
+    ensures refused { (known : List Op) → Divides known replica.now.ops replica.now.held
+        → IfErr result (RefusesFigText request known fig.now) }
+{
+    let taker = taker_of(alloc, replica.copy(alloc)?, request.site)?;
+    let drawn = read_drawing(alloc, fig)?;
+    let kept = mem::replace(kept, KeptVersions::new(alloc));
+    let taker = KeptSite::new(taker, kept);
+    Ok(take_drawing(alloc, taker, fig, &drawn, request)?)
+}
+
+/// What a site took of a drawing: the new operations, their lines with what is told of them, and the
+/// site with these operations.
+#[derive(Drop)]
+pub struct TakenDrawing {
+    pub ops: Vec<Op>,
+    pub answer: Answer<Taken>,
+    pub site: KeptSite,
 }
 
 /// What a site takes of a drawing.
 fn take_drawing(
     alloc: Global,
-    taker: Site,
+    taker: KeptSite,
     fig: &[u8],
     drawn: &ReadDrawing,
     request: TakeRequest,
-) -> Result<Answer<Taken>, DrawingError>
+) -> Result<TakenDrawing, DrawingError>
     requires site { IsSite request.site }
     requires number { taker.number ≡ request.site }
     requires drawn { DenotesDrawing fig.now drawn.now.drawing drawn.now.seen }
     requires named { AreNamed fig.now drawn.now.drawing drawn.now.names.items }
-    ensures ok { IfOk result (TakesSo request taker.ops fig.now drawn.now.drawing
-        drawn.now.seen) }
+    ensures ok { IfOk result (λ t. TakesSo request taker.ops fig.now drawn.now.drawing
+        drawn.now.seen t.ops.items t.answer) }
+    ensures site { IfOk result (λ t. t.site.ops ≡ taker.ops ++ t.ops.items) }
     ensures refused { IfErr result (RefusesDrawing request taker.ops fig.now
         drawn.now.drawing drawn.now.seen) }
 {
@@ -91,16 +136,18 @@ fn take_drawing(
     let made = make_behind(alloc, taker, fig, drawn, request)?;
     let numbers = numbers_of(alloc, &made.ops)?;
     let text = text_of(alloc, &made.ops, &made.text)?;
-    Ok(Answer {
-        text,
-        value: Taken {
-            made: made_of(&made.ops),
-            since,
-            thin: made.thin,
-            changed: numbers.changed,
-            hidden: numbers.hidden,
-            drawn: numbers.drawn,
-        },
+    let taken = Taken {
+        made: made_of(&made.ops),
+        since,
+        thin: made.thin,
+        changed: numbers.changed,
+        hidden: numbers.hidden,
+        drawn: numbers.drawn,
+    };
+    Ok(TakenDrawing {
+        ops: made.ops,
+        answer: Answer { text, value: taken },
+        site: made.site,
     })
 }
 

@@ -3,13 +3,11 @@
 use gf_fig_read::read_fig;
 use gf_figures::Drawing;
 use gf_import::creations;
-use gf_listing::Versions;
+use gf_kept::KeptSite;
 use gf_ops::{Change, Form, Points, Start};
 use gf_shape::{Outline, Point, Rgb};
 use gf_site::Site;
 use gf_take::{make_all, shows};
-use gf_versions::MOST_VERSIONS;
-use gf_visible::ranked_within;
 use std::alloc::Global;
 use std::test::Fail;
 use test_kit::{Answers, EMPTY_FIG, ask, is_answer};
@@ -61,9 +59,9 @@ impl Answers for Taker {
 
 /// How many operations a new site makes of changes, where it then shows a drawing.
 fn taken(alloc: Global, changes: Vec<Change>, shown: &Drawing<Outline>) -> Option<String> {
-    let mut site = Site::new(alloc, 1);
+    let mut site = KeptSite::of(alloc, Site::new(alloc, 1));
     let ops = make_all(alloc, &mut site, changes).ok()?;
-    let ranked = ranked_within(alloc, &Versions::of(site.indexed()), MOST_VERSIONS).ok()??;
+    let ranked = site.ranked(alloc).ok()??;
     if shows(alloc, &ranked.items, shown).ok()? {
         format!(in alloc; "{}", ops.len()).ok()
     } else {

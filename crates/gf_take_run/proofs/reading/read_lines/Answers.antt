@@ -1,20 +1,18 @@
-use Rattle.std.proofs.Common.{subst}
-use Rattle.gf_edit.specs.declared.edit_error.EditError.{EditError}
-use Rattle.gf_edit.specs.EntrySteps.{HoldsBlocking, RefusesWaiting}
-use Rattle.gf_take_run.proofs.TakeLemmas.{denotes_lines, has_blocking}
+use Rattle.std.proofs.Common.{refl}
+use Rattle.gf_take_run.proofs.TakeLemmas.{lines_divided, lines_read, lines_unread}
 use Rattle.gf_take_run.proofs.reading.read_lines.Goals as goal
 
-pub returns-in-Ok-check_waiting-clause-ok : goal.returns-in-Ok-check_waiting-clause-ok
-returns-in-Ok-check_waiting-clause-ok g c =
-    let is = c.with_replica-taker.ensures in
-    rw is (denotes_lines c.args.request.site c.args.lines.items c.in-Ok.replica c.in-Ok.ensures.held
-    c.history.ensures.accepted (rw is at c.in-Ok-check_waiting.ensures.ok))
+pub returns-clause-ok : goal.returns-clause-ok
+returns-clause-ok g c =
+    let r = c.in-Ok.replica in
+    let d = c.in-Ok.ensures.held in
+    lines_read c.args.lines.items r.ops r.held d c.args.request.site c.taker_of.result
+    (c.taker_of.ensures.ok d.ops (lines_divided c.args.lines.items r.ops r.held d))
 
-pub returns-in-Err-Waits-clause-refused : goal.returns-in-Err-Waits-clause-refused
-returns-in-Err-Waits-clause-refused g c = λ fig.
-    let is = c.with_replica-taker.ensures in
-    let waits : HoldsBlocking c.with_replica-taker.result c.in-Err-Waits.id c.in-Err-Waits.other =
-    subst (λ (e : EditError). RefusesWaiting c.with_replica-taker.result e)
-    c.in-Err-Waits.field-0-is c.in-Err-Waits.ensures.err in
-    has_blocking c.args.request.site c.args.lines.items c.in-Ok.replica c.in-Ok.ensures.held
-    c.in-Err-Waits.id c.in-Err-Waits.other (rw is at waits)
+pub returns-clause-refused : goal.returns-clause-refused
+returns-clause-refused g c = λ fig.
+    let r = c.in-Ok.replica in
+    let d = c.in-Ok.ensures.held in
+    lines_unread c.args.lines.items r.ops r.held d c.args.request fig c.taker_of.result
+    (c.taker_of.ensures.refused c.args.request d.ops fig refl
+    (lines_divided c.args.lines.items r.ops r.held d))

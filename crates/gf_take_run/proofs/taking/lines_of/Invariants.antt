@@ -1,5 +1,5 @@
 use Rattle.std.proofs.Common.{take}
-use Rattle.gf_take_run.specs.TakeSteps.{AreWritten}
+use Rattle.gf_take_run.specs.TakenBehind.{AreWritten}
 use Rattle.gf_take_run.proofs.taking.lines_of.Given as goal
 
 abbrev pub invariant-loop-op : goal.invariant-loop-op

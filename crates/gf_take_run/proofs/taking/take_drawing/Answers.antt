@@ -6,7 +6,8 @@ use Rattle.gf_ops.specs.declared.op.Op.{Op}
 use Rattle.gf_edit.specs.MadeOperations.{made_of}
 use Rattle.gf_take_run.specs.SeenDrawing.{AreThere, IsNewer, since_drawing}
 use Rattle.gf_take_run.specs.ShownText.{IsShownText}
-use Rattle.gf_take_run.specs.TakeSteps.{AreCounted, IsWrittenText, RefusesBehind}
+use Rattle.gf_take_run.specs.TakeSteps.{AreCounted, RefusesBehind}
+use Rattle.gf_take_run.specs.TakenBehind.{IsWrittenText}
 use Rattle.gf_take_run.proofs.TakeLemmas.{behind_refused, takes_so}
 use Rattle.gf_take_run.proofs.taking.take_drawing.Goals as goal
 

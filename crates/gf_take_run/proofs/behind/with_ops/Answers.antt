@@ -1,7 +1,7 @@
 use Rattle.std.proofs.Common.{sym, subst}
 use Rattle.gf_ops.specs.Accepted.{IsAccepted}
 use Rattle.gf_take_run.proofs.JoinedLemmas.{accepted_behind}
-use Rattle.gf_take_run.proofs.behind.text_with.Goals as goal
+use Rattle.gf_take_run.proofs.behind.with_ops.Goals as goal
 
 pub add-requires-clause-accepted : goal.add-requires-clause-accepted
 add-requires-clause-accepted c =
