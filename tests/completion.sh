@@ -23,7 +23,7 @@ offers() {
 }
 
 offers 'paint' figgroup pa
-offers 'status session' figgroup s
+offers 'status session serve' figgroup s
 offers '--width --workers' figgroup paint --w
 offers '' figgroup nonsense --w
 offers 'site set status' draw s

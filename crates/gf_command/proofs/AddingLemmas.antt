@@ -60,6 +60,7 @@ options_simple takes.Drawing = refl
 options_simple takes.Check = refl
 options_simple takes.Editor = refl
 options_simple takes.Sites = refl
+options_simple takes.Requests = refl
 
 -- a new command with the options of t
 pub options_whole : (name : List ℕ) (t : Takes)
@@ -72,6 +73,7 @@ options_whole name takes.Drawing = refl
 options_whole name takes.Check = refl
 options_whole name takes.Editor = refl
 options_whole name takes.Sites = refl
+options_whole name takes.Requests = refl
 
 -- one command more is that of one row more
 pub commands_more : (cs : List Command) (c : Command) (runs : List Usage) (i : ℕ) (d : Usage)

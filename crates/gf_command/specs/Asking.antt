@@ -33,7 +33,7 @@ use Rattle.gf_command.specs.declared.runs.Canvas.{Canvas}
 use Rattle.gf_command.specs.declared.runs.Run.{Run}
 use Rattle.gf_command.specs.declared.runs.Run.TheVariants.{Fig, NamedFig, Paint, Repaint}
 use Rattle.gf_command.specs.declared.runs.Run.TheVariants.{Inspect, Import, Edit, Take, Status}
-use Rattle.gf_command.specs.declared.runs.Run.TheVariants.{Check, Session}
+use Rattle.gf_command.specs.declared.runs.Run.TheVariants.{Check, Serve, Session}
 
 -- in these rows the option has a text, given or by default, whose number is n
 pub record HasNatural (rows : List Row) (name : Text) (n : ℕ) : Type 0 where
@@ -213,6 +213,7 @@ AsksRun met (Status check notation workers) =
 AsksRun met (Check editor) = Meets met (codes "check") (λ rows. IsChecked rows editor)
 AsksRun met (Session sites) =
     Meets met (codes "session") (λ rows. HasNatural rows (codes "sites") sites)
+AsksRun met (Serve workers) = Meets met (codes "serve") (λ rows. HasWorkers rows workers)
 
 -- what is asked for by the command that was met, or why nothing is
 abbrev pub IsAsked : Option (Text × List Row) → Asked → Type 0

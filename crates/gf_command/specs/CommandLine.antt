@@ -75,6 +75,10 @@ editor = optional (codes "site") (Unsigned 1 8) ∷ []
 abbrev pub sites : List Rule
 sites = number (codes "sites") (codes "2") (Unsigned 2 8) ∷ []
 
+-- the option of a service
+abbrev pub requests : List Rule
+requests = reading ∷ []
+
 -- a command of this name, with these options
 abbrev pub command : Text → List Rule → Shape
 command name options = record (new_shape name) { rules = options }
@@ -87,7 +91,7 @@ commands =
     command (codes "import") site ∷ command (codes "edit") site ∷
     command (codes "take") drawing ∷
     command (codes "status") check ∷ command (codes "check") editor ∷
-    command (codes "session") sites ∷ []
+    command (codes "session") sites ∷ command (codes "serve") requests ∷ []
 
 -- the program: one of its commands is wanted, and without a word its help is told
 abbrev pub program : App

@@ -22,11 +22,12 @@ use Rattle.gf_check.specs.AllFaults.{AnswersText}
 use Rattle.gf_check.specs.declared.checks.Verdict.TheVariants as verdict
 use Rattle.gf_check.specs.CheckRun.{WritesCheck}
 use Rattle.gf_session_run.specs.SessionRun.{TellsSession, WritesSession}
+use Rattle.gf_serve.specs.Serves.{AnswersAll, AnswersFirst}
 use Rattle.gf_command.specs.declared.runs.Run.{Run}
 use Rattle.gf_command.specs.declared.runs.Editor.{Editor}
 use Rattle.gf_command.specs.declared.runs.Run.TheVariants.{Fig, NamedFig, Paint, Repaint}
 use Rattle.gf_command.specs.declared.runs.Run.TheVariants.{Inspect, Import, Edit, Take, Status}
-use Rattle.gf_command.specs.declared.runs.Run.TheVariants.{Check, Session}
+use Rattle.gf_command.specs.declared.runs.Run.TheVariants.{Check, Serve, Session}
 
 -- the number of the site, where one is given
 abbrev pub site_of : Option Editor → Option ℕ
@@ -50,9 +51,9 @@ WritesExtentPrefix format extent bytes old new =
 
 -- known bytes grow from old to new by what the run asks for. This is the FIG text, the picture, the
 -- status or the answer to a query of what the bytes denote. Or it is the picture of a FIG text's
--- drawing, the lines of an import, of an edit or of a take. Or it is what a session came to, or
--- nothing where there is no fault. The FIG text shows the history, and is to the byte that of its
--- drawing, or the named one
+-- drawing, the lines of an import, of an edit or of a take. Or it is what a session came to, the
+-- answers of a service, or nothing where there is no fault. The FIG text shows the history, and is
+-- to the byte that of its drawing, or the named one
 abbrev pub Answers : Run → List ℕ → Option (List ℕ) → Option (List ℕ) → Type 0
 Answers (Fig workers) bytes old new = Exports bytes old new × Writes bytes old new
 Answers (NamedFig workers) bytes old new = Exports bytes old new × WritesNamed bytes old new
@@ -71,6 +72,7 @@ Answers (Status check notation workers) bytes old new =
 Answers (Check editor) bytes old new =
     WritesCheck (site_of editor) bytes verdict.Clean old new
 Answers (Session sites) bytes old new = WritesSession sites bytes old new
+Answers (Serve workers) bytes old new = AnswersAll bytes old new
 
 -- known bytes grow from old to new by a prefix of what the run asks for. The prefix of a picture
 -- may be whole bands
@@ -92,6 +94,7 @@ AnswersPrefix (Status check notation workers) bytes old new =
 AnswersPrefix (Check editor) bytes old new =
     WritesPrefix (AnswersText (site_of editor) bytes) old new
 AnswersPrefix (Session sites) bytes old new = WritesPrefix (TellsSession sites bytes) old new
+AnswersPrefix (Serve workers) bytes old new = AnswersFirst bytes old new
 
 -- known bytes grow from old to new by what the run asks for, which is to be seen to. Something
 -- waits or differs, where that is asked for, or there is a fault

@@ -3,7 +3,7 @@ use Rattle.std.specs.Prelude.{List, []}
 use Rattle.clap.specs.Walk.{Rule}
 use Rattle.clap.specs.Simple.{App, Shape}
 use Rattle.gf_command.specs.CommandLine.{canvas, check, command, drawing, editor, fig, query}
-use Rattle.gf_command.specs.CommandLine.{site, sites}
+use Rattle.gf_command.specs.CommandLine.{requests, site, sites}
 use Rattle.gf_command.specs.declared.describing.Takes.{Takes}
 use Rattle.gf_command.specs.declared.describing.Takes.TheVariants as takes
 use Rattle.gf_command.specs.declared.describing.Usage.{Usage}
@@ -18,6 +18,7 @@ options_of takes.Drawing = drawing
 options_of takes.Check = check
 options_of takes.Editor = editor
 options_of takes.Sites = sites
+options_of takes.Requests = requests
 
 -- the command of a row
 abbrev pub usage_shape : Usage → Shape

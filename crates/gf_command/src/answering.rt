@@ -23,6 +23,7 @@ use gf_gate::OpenGate;
 use gf_import::import_run;
 use gf_ops::ObjectId;
 use gf_run::StudioError;
+use gf_serve::serve_run;
 use gf_session_run::session_run;
 use gf_status::{State, status_run};
 use gf_streams::{Sink, Source, WriteError, write_whole};
@@ -184,6 +185,7 @@ fn answer<T: Threads + Wait + Sync, R: Source, W: Sink>(
             Verdict::Clean => {}
         },
         Run::Session(sites) => session_run(rt, alloc, source, output, sites, &OpenGate)?,
+        Run::Serve(workers) => serve_run(rt, alloc, source, output, workers.count)?,
     }
     Ok(Outcome::Written)
 }

@@ -73,6 +73,7 @@ fn read_matches(matches: &ArgMatches<'_>) -> Option<Asked>
         })),
         "check" => Some(Asked::Run(Run::Check(checked_of(matches)?))),
         "session" => Some(Asked::Run(Run::Session(byte(matches, "sites")?))),
+        "serve" => Some(Asked::Run(Run::Serve(workers_of(matches)?))),
         _ => None,
     }
 }

@@ -30,9 +30,10 @@ enum Takes {
     Check,
     Editor,
     Sites,
+    Requests,
 }
 
-const RUNS: [Usage; 10] = [
+const RUNS: [Usage; 11] = [
     Usage {
         name: "fig",
         about: "Read operation lines from standard input and write the FIG text of their drawing",
@@ -103,6 +104,13 @@ const RUNS: [Usage; 10] = [
         example: "Example: figgroup session --sites 3 < script.jsonl",
         takes: Takes::Sites,
     },
+    Usage {
+        name: "serve",
+        about: "Stay, and answer requests from standard input, each as take, fig --named or status \
+                answers all operation lines that came before",
+        example: "Example: figgroup serve < requests > answers",
+        takes: Takes::Requests,
+    },
 ];
 
 /// The program, with a command for each run.
@@ -154,6 +162,7 @@ fn options<'a>(alloc: Global, takes: Takes) -> Result<Vec<Arg<'a>>, AllocError>
         Takes::Check => check(alloc),
         Takes::Editor => editor(alloc),
         Takes::Sites => sites(alloc),
+        Takes::Requests => requests(alloc),
     }
 }
 
@@ -345,6 +354,13 @@ fn sites<'a>(alloc: Global) -> Result<Vec<Arg<'a>>, AllocError>
         "How many sites there are, 2 to 8",
     );
     Ok(vec![in alloc; sites]?)
+}
+
+/// The option of a service.
+fn requests<'a>(alloc: Global) -> Result<Vec<Arg<'a>>, AllocError>
+    ensures { IfOk result (λ args. map rule_of args.items ≡ line.requests) }
+{
+    Ok(vec![in alloc; reading(alloc)]?)
 }
 
 /// An option for a coordinate.

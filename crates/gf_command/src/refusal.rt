@@ -3,6 +3,7 @@
 use gf_edit::EditError;
 use gf_import::ImportError;
 use gf_run::StudioError;
+use gf_serve::ServeError;
 use gf_session_run::SessionRunError;
 use gf_take_run::TakeRunError;
 use thiserror::Error;
@@ -20,6 +21,8 @@ pub(crate) enum Refusal {
     Import(#[from] ImportError),
     #[error(transparent)]
     Session(#[from] SessionRunError),
+    #[error(transparent)]
+    Serve(#[from] ServeError),
     /// An option that clap took is outside its limits.
     #[error("an option is out of range")]
     Options,

@@ -46,6 +46,8 @@ pub enum Run {
     Check(Option<Editor>),
     /// What a session of the scripts of this many sites came to.
     Session(u8),
+    /// The answers to requests until these end, by these workers.
+    Serve(Workers),
 }
 
 /// What a command line that clap took asks for.

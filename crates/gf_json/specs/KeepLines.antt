@@ -27,7 +27,8 @@ keeps d = has_count 4 (as_object d) && says (codes "do") (codes "keep") d
 -- what the line keeps, by its value and whatever its limits
 abbrev pub keep_of : Data → Option KeepLine
 keep_of d =
-    if keeps d then option_map (λ p. record { site = p.0; object = record { 0 = p.1.0 }; with = p.1.1 })
+    if keeps d
+    then option_map (λ p. record { site = p.0; object = record { 0 = p.1.0 }; with = p.1.1 })
     (at (codes "site") natural d & at (codes "object") name d & at (codes "with") ids d)
     else None
 

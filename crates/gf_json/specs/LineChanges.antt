@@ -1,5 +1,5 @@
--- The change that a line tells, whatever its limits (RFC 8259 by serde_json's value; words and forms
--- are this project's choice).
+-- The change that a line tells, whatever its limits (RFC 8259 by serde_json's value; words and
+-- forms are this project's choice).
 use Rattle.std.specs.Prelude.{ℕ, List, [], Option, Some, None, option_map, option_and_then, codes}
 use Rattle.std.specs.Prelude.{if◌then◌else◌}
 use Rattle.gf_ops.specs.declared.op.OpId.{OpId}

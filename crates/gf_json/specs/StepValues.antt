@@ -1,5 +1,5 @@
--- Values of a line that are read part by part, Field in one before Range in another. No public clause
--- cites this module.
+-- Values of a line that are read part by part, Field in one before Range in another. No public
+-- clause cites this module.
 use Rattle.std.specs.Prelude.{Bool, ℤ, List, [], ◌∷◌, option_map, option_and_then, Ok, Err}
 use Rattle.std.specs.Option.{ok_or}
 use Rattle.gf_json.specs.declared.line_error.LineError.{LineError}

@@ -25,6 +25,7 @@ mod values;
 use crate::reading::changes::change;
 use crate::reading::fields::{id, object, past, site, with_ids};
 use crate::reading::keys::tells;
+pub use crate::reading::keys::{has_count, says};
 use crate::reading::values::both;
 use crate::{Command, KeepLine, LineError, ScriptLine};
 use gf_ops::{Change, Ids, Op};

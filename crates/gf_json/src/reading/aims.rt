@@ -1,14 +1,12 @@
 //! The ids that an operation aims at.
 
 ghost use Rattle.std.specs.Prelude.{◌≡◌, ◌⊎◌, Err, IfOk, IsTrue};
-ghost use Rattle.std.specs.Ordering.{is_lt};
 ghost use Rattle.serde_json.specs.View.{view, items_view};
 ghost use Rattle.gf_ops.specs.Limits.{is_aim};
 ghost use Rattle.gf_json.specs.LineValues.{mapped};
 ghost use Rattle.gf_json.specs.LineForms.{elements};
 ghost use Rattle.gf_json.specs.StepValues.{each};
 ghost use Rattle.gf_json.specs.StepLimits.{name};
-ghost use Rattle.gf_json.specs.LineForms.{pair_cmp};
 ghost use Rattle.gf_json.specs.StepAims.{numbers, rising, aim_ids, ids};
 ghost use Rattle.gf_json.specs.CheckedIds.{next_behind, rising_behind};
 
@@ -76,23 +74,9 @@ fn next_behind(last: (i64, i64), value: &Value) -> Option<(i64, i64)>
     ensures { result ≡ next_behind last (numbers (view value.now)) }
 {
     match numbers(value) {
-        Ok(next) => {
-            if pair_less(last, next) {
-                Some(next)
-            } else {
-                None
-            }
-        }
+        Ok(next) => { if last < next { Some(next) } else { None } }
         Err(_) => None,
     }
-}
-
-/// Whether a pair is before another, by the first number and then by the second.
-#[tactic(auto, using(std::proofs::lemmas::Int::ints))]
-fn pair_less(first: (i64, i64), second: (i64, i64)) -> bool
-    ensures { result ≡ is_lt (pair_cmp first second) }
-{
-    first.0 < second.0 || first.0 == second.0 && first.1 < second.1
 }
 
 /// The ids that the values name. The form of the values is right, so a fault is one of limits or of

@@ -16,7 +16,7 @@ pub(crate) fn tells(line: &Value, count: usize, verb: &str, word: &str) -> bool
 }
 
 /// Whether the line has this word at the key.
-fn says(line: &Value, key: &str, word: &str) -> bool
+pub fn says(line: &Value, key: &str, word: &str) -> bool
     ensures { result ≡ says key.now word.now (view line.now) }
 {
     is_word(word_at(line, key), word)
@@ -38,8 +38,9 @@ pub(crate) fn is_word(found: Option<&str>, word: &str) -> bool
     }
 }
 
+/// Whether the line is an object with this many keys.
 #[tactic(auto, using(crate::proofs::KeyLemmas::counts))]
-fn has_count(line: &Value, count: usize) -> bool
+pub fn has_count(line: &Value, count: usize) -> bool
     ensures { result ≡ has_count count (as_object (view line.now)) }
 {
     match line.as_object() {

@@ -1,0 +1,5 @@
+pub mod ServingLemmas
+pub mod AnswerLemmas
+pub mod AskingLemmas
+pub mod InboxLemmas
+pub mod WritingLemmas

@@ -1,0 +1,14 @@
+use Rattle.std.specs.Io.KnownBytes.{prepend_known}
+use Rattle.gf_serve.proofs.ServingLemmas.{frame_taken}
+use Rattle.gf_serve.proofs.run.read_frame.Goals as goal
+
+pub returns-clause-frame : goal.returns-clause-frame
+returns-clause-frame g c =
+    frame_taken (prepend_known c.args.held.now.items (g.R.Source.left c.args.source.now))
+    (prepend_known c.read_line.new.held.items (g.R.Source.left c.read_line.new.source))
+    (prepend_known c.read_body.new.held.items (g.R.Source.left c.read_body.new.source))
+    c.in-Some.line.items c.deref.result.now c.in_ok-asks.count
+    (record { asks = c.in_ok-asks.asks; body = c.in_ok-body.body })
+    (rw c.in-Some.is at c.in_ok-line.ensures.line) c.deref.ensures.value
+    c.in_ok-asks.ensures.told c.in_ok-body.ensures.count
+    (rw c.in-Some.is at c.in_ok-line.ensures.takes) c.in_ok-body.ensures.takes
