@@ -1,10 +1,9 @@
 //! What an operation that waits lacks.
 
 ghost use Rattle.std.specs.Prelude.{◌≡◌};
-ghost use Rattle.gf_ops.specs.OperationOrder.{entry};
 ghost use Rattle.gf_causal.specs.Waiting.{first_missing, needed, waits_for};
 
-use gf_ops::{Clock, History, Op, OpId};
+use gf_ops::{History, Op, OpId};
 
 /// The numbers of all sites.
 const SITES: [u8; 8] = [1, 2, 3, 4, 5, 6, 7, 8];
@@ -42,13 +41,6 @@ fn needed(op: &Op, site: u8) -> u32
     if site == op.id.site {
         op.id.seq.saturating_sub(1)
     } else {
-        entry(op.past, site)
+        op.past.entry(site)
     }
-}
-
-fn entry(past: Clock, site: u8) -> u32
-    ensures { result ≡ entry past site }
-{
-    let index = usize::from(site).saturating_sub(1);
-    past.0.get(index).copied().unwrap_or(0)
 }

@@ -4,7 +4,7 @@ use crate::Target;
 use crate::aiming::has_all;
 use crate::altering::change_all;
 use crate::matching::Matching;
-use crate::ordering::{Look, Row, Spot, Standing, layers_of};
+use crate::ordering::{Look, OrderRow, Spot, Staying, layers_of};
 use gf_base::OutOfMemory;
 use gf_ops::{Change, History, Start, Value};
 use gf_versions::Version;
@@ -119,7 +119,7 @@ fn rows_of(
     versions: &[Version],
     targets: &[Target],
     followers: &[Option<usize>],
-) -> Result<Vec<Row>, OutOfMemory> {
+) -> Result<Vec<OrderRow>, OutOfMemory> {
     let mut rows = Vec::with_capacity(alloc, targets.len())?;
     for (figure, follower) in targets.iter().zip(followers.iter()) {
         rows.push(row_of(figure, *follower, versions))?;
@@ -128,14 +128,14 @@ fn rows_of(
 }
 
 /// What the order of a figure depends on, which may be the version of this rank.
-fn row_of(figure: &Target, rank: Option<usize>, versions: &[Version]) -> Row {
+fn row_of(figure: &Target, rank: Option<usize>, versions: &[Version]) -> OrderRow {
     let spot = spot_at(versions, rank);
-    Row {
+    OrderRow {
         look: Look {
             bounds: figure.bounds,
             colour: figure.start.colour,
         },
-        standing: standing_of(figure, spot.is_some()),
+        staying: staying_of(figure, spot.is_some()),
         spot,
     }
 }
@@ -152,11 +152,11 @@ fn spot_at(versions: &[Version], rank: Option<usize>) -> Option<Spot> {
 }
 
 /// Whether a figure may stay where it stands.
-fn standing_of(figure: &Target, is_version: bool) -> Standing {
+fn staying_of(figure: &Target, is_version: bool) -> Staying {
     match &figure.name {
-        Some(name) if is_version && name.depth == figure.depth => Standing::Kept,
-        Some(_) if is_version => Standing::Moved,
-        _ => Standing::Unwritten,
+        Some(name) if is_version && name.depth == figure.depth => Staying::Kept,
+        Some(_) if is_version => Staying::Moved,
+        _ => Staying::Unwritten,
     }
 }
 

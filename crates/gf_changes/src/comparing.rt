@@ -1,7 +1,7 @@
 //! How a figure differs from a version.
 
 use gf_base::OutOfMemory;
-use gf_ops::{Form, Points, Start, Value};
+use gf_ops::{Form, Points, Start, Value, is_near};
 use gf_shape::Point;
 use gf_versions::Version;
 use std::alloc::Global;
@@ -11,13 +11,13 @@ const MOST_POINTS: usize = 64;
 
 /// In which attributes a figure differs from a version of its kind.
 #[derive(Clone, Copy, PartialEq, Eq)]
-pub(crate) struct Difference {
+pub(crate) struct Comparison {
     pub(crate) place: bool,
     pub(crate) form: bool,
     pub(crate) colour: bool,
 }
 
-impl Difference {
+impl Comparison {
     /// How many attributes differ.
     pub(crate) fn count(self) -> usize {
         usize::from(self.place) + usize::from(self.form) + usize::from(self.colour)
@@ -26,43 +26,43 @@ impl Difference {
 
 /// The kinds of forms.
 #[derive(Clone, Copy, PartialEq, Eq)]
-enum Kind {
+enum FormKind {
     Rect,
     Polygon,
     Circle,
     Ellipse,
 }
 
-fn kind_of(form: &Form) -> Kind {
+fn kind_of(form: &Form) -> FormKind {
     match form {
-        Form::Rect(..) => Kind::Rect,
-        Form::Polygon(_) => Kind::Polygon,
-        Form::Circle(_) => Kind::Circle,
-        Form::Ellipse(..) => Kind::Ellipse,
+        Form::Rect(..) => FormKind::Rect,
+        Form::Polygon(_) => FormKind::Polygon,
+        Form::Circle(_) => FormKind::Circle,
+        Form::Ellipse(..) => FormKind::Ellipse,
     }
 }
 
 /// In which attributes a figure differs from a version; None where the figure is of another kind.
 /// A polygon that was moved whole differs in its place alone, wherever its first point lies.
-pub(crate) fn compared(version: &Version, start: &Start) -> Option<Difference> {
+pub(crate) fn compared(version: &Version, start: &Start) -> Option<Comparison> {
     if kind_of(&version.form) != kind_of(&start.form) {
         return None;
     }
     let colour = version.colour != start.colour;
     let (Form::Polygon(old), Form::Polygon(new)) = (&version.form, &start.form) else {
-        return Some(Difference {
+        return Some(Comparison {
             place: version.place != start.place,
             form: version.form != start.form,
             colour,
         });
     };
     match moved(old, version.place, new, start.place) {
-        Some(at) => Some(Difference {
+        Some(at) => Some(Comparison {
             place: at != version.place,
             form: false,
             colour,
         }),
-        None if are_near_from(version.place, new, start.place) => Some(Difference {
+        None if are_near_from(version.place, new, start.place) => Some(Comparison {
             place: false,
             form: true,
             colour,
@@ -131,11 +131,6 @@ pub(crate) fn points_from(
 /// A point that is seen from `start`, seen from `place`.
 fn seen_from(place: Point, p: Point, start: Point) -> Option<Point> {
     minus(plus(p, start)?, place)
-}
-
-/// Whether a place keeps its limit.
-fn is_near(p: Point) -> bool {
-    -1_000_000 <= p.x && p.x <= 1_000_000 && -1_000_000 <= p.y && p.y <= 1_000_000
 }
 
 /// The value by which a form that has a size gets the size of another one.

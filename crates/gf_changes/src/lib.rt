@@ -6,10 +6,11 @@
 //! - [`versions_of`]: the versions that are shown.
 //! - [`matched`]: which version each figure is, as a [`Matching`]; [`first_beyond`]: the first
 //!   figure that comes to be something beyond the limits of operations.
-//! - [`object_not_shown`]: the hidden object that a figure names; [`showing_again`]: the change that
-//!   shows a hidden version which looks like the figure; [`has_change`]: whether the change is there
-//!   already.
-//! - [`alterations`]: the changes of versions to what their figures are, and those that hide others.
+//! - [`object_not_shown`]: the hidden object that a figure names; [`showing_again`]: the change
+//!   that shows a hidden version which looks like the figure; [`has_change`]: whether the change is
+//!   there already.
+//! - [`alterations`]: the changes of versions to what their figures are, and those that hide
+//!   others.
 //! - [`arranged`]: the changes of layers, and the new figures behind these.
 #![tactic(auto)]
 

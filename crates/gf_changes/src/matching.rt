@@ -25,9 +25,9 @@ enum Way {
     Alike,
 }
 
-/// One pass over the figures: how a pair may be one, and in how many attributes it differs.
+/// One round over the figures: how a pair may be one, and in how many attributes it differs.
 #[derive(Clone, Copy)]
-struct Pass {
+struct Round {
     way: Way,
     count: usize,
 }
@@ -49,7 +49,7 @@ pub fn matched(
     };
     for way in [Way::Named, Way::Alike] {
         for count in 0..=3 {
-            match_all(&mut matching, versions, targets, seen, Pass { way, count });
+            match_all(&mut matching, versions, targets, seen, Round { way, count });
         }
     }
     Ok(matching)
@@ -64,19 +64,19 @@ fn unmatched(alloc: Global, count: usize) -> Result<Vec<Option<usize>>, OutOfMem
     Ok(entries)
 }
 
-/// Matches what may be one in this pass.
+/// Matches what may be one in this round.
 fn match_all(
     matching: &mut Matching,
     versions: &[Version],
     targets: &[Target],
     seen: &Clock,
-    pass: Pass,
+    round: Round,
 ) {
     // Each version before this index is matched.
     let mut first = 0;
     for (f, figure) in targets.iter().enumerate() {
         if is_free(&matching.versions, f) {
-            if let Some(v) = match_of(&matching.figures, versions, figure, seen, pass, first) {
+            if let Some(v) = match_of(&matching.figures, versions, figure, seen, round, first) {
                 matching.pair(f, v);
                 if v == first {
                     first = v.saturating_add(1);
@@ -86,17 +86,17 @@ fn match_all(
     }
 }
 
-/// The index of the first free version, from one on, that a figure may be in this pass.
+/// The index of the first free version, from one on, that a figure may be in this round.
 fn match_of(
     figures: &[Option<usize>],
     versions: &[Version],
     figure: &Target,
     seen: &Clock,
-    pass: Pass,
+    round: Round,
     first: usize,
 ) -> Option<usize> {
     for (v, version) in versions.iter().enumerate().skip(first) {
-        if is_free(figures, v) && may_match(version, figure, seen, pass) {
+        if is_free(figures, v) && may_match(version, figure, seen, round) {
             return Some(v);
         }
     }
@@ -141,20 +141,22 @@ impl Matching {
     }
 }
 
-/// Whether a figure may be a version in this pass.
-fn may_match(version: &Version, figure: &Target, seen: &Clock, pass: Pass) -> bool {
-    let may = match pass.way {
+/// Whether a figure may be a version in this round.
+fn may_match(version: &Version, figure: &Target, seen: &Clock, round: Round) -> bool {
+    let may = match round.way {
         Way::Named => match &figure.name {
             Some(name) => is_named(version, name),
             None => false,
         },
-        Way::Alike => { pass.count == 0 || pass.count <= 2 && is_newer(version.key.object.0, seen) }
+        Way::Alike => {
+            round.count == 0 || round.count <= 2 && is_newer(version.key.object.0, seen)
+        }
     };
     if !may {
         return false;
     }
     match compared(version, &figure.start) {
-        Some(difference) => difference.count() == pass.count,
+        Some(comparison) => comparison.count() == round.count,
         None => false,
     }
 }

@@ -19,7 +19,7 @@ const STEP: u16 = 9;
 
 /// Whether a figure may stay where it stands.
 #[derive(Clone, Copy, PartialEq, Eq)]
-pub(crate) enum Standing {
+pub(crate) enum Staying {
     /// The figure has the depth with which it was written.
     Kept,
     /// The figure has another depth than it was written with.
@@ -45,16 +45,16 @@ pub(crate) struct Look {
 
 /// What the layer of a figure depends on. A figure that is no version has no spot.
 #[derive(Clone, Copy)]
-pub(crate) struct Row {
+pub(crate) struct OrderRow {
     pub(crate) look: Look,
-    pub(crate) standing: Standing,
+    pub(crate) staying: Staying,
     pub(crate) spot: Option<Spot>,
 }
 
 /// The layers of figures that are listed from the front to the back. They are raised from the back,
 /// or lowered from the front, whichever changes fewer. Where neither keeps the limits, all layers
 /// are given anew.
-pub(crate) fn layers_of(alloc: Global, rows: &[Row]) -> Result<Vec<u16>, OutOfMemory> {
+pub(crate) fn layers_of(alloc: Global, rows: &[OrderRow]) -> Result<Vec<u16>, OutOfMemory> {
     let Some(raised) = raised(alloc, rows)? else {
         return match lowered(alloc, rows)? {
             Some(lowered) => Ok(lowered),
@@ -72,7 +72,7 @@ pub(crate) fn layers_of(alloc: Global, rows: &[Row]) -> Result<Vec<u16>, OutOfMe
 }
 
 /// The layers of figures that are raised from the back, if these keep the limits.
-fn raised(alloc: Global, rows: &[Row]) -> Result<Option<Vec<u16>>, OutOfMemory> {
+fn raised(alloc: Global, rows: &[OrderRow]) -> Result<Option<Vec<u16>>, OutOfMemory> {
     let mut from_back = copied(alloc, rows)?;
     from_back.reverse();
     match raise_all(alloc, &from_back)? {
@@ -85,7 +85,7 @@ fn raised(alloc: Global, rows: &[Row]) -> Result<Option<Vec<u16>>, OutOfMemory> 
 }
 
 /// The layers of figures that are lowered from the front, if these keep the limits.
-fn lowered(alloc: Global, rows: &[Row]) -> Result<Option<Vec<u16>>, OutOfMemory> {
+fn lowered(alloc: Global, rows: &[OrderRow]) -> Result<Option<Vec<u16>>, OutOfMemory> {
     let mirrored = mirrored(alloc, rows)?;
     match raise_all(alloc, &mirrored)? {
         Some(mut layers) => {
@@ -97,7 +97,7 @@ fn lowered(alloc: Global, rows: &[Row]) -> Result<Option<Vec<u16>>, OutOfMemory>
 }
 
 /// A copy of rows.
-fn copied(alloc: Global, rows: &[Row]) -> Result<Vec<Row>, OutOfMemory> {
+fn copied(alloc: Global, rows: &[OrderRow]) -> Result<Vec<OrderRow>, OutOfMemory> {
     let mut copies = Vec::with_capacity(alloc, rows.len())?;
     for row in rows {
         copies.push(*row)?;
@@ -106,12 +106,12 @@ fn copied(alloc: Global, rows: &[Row]) -> Result<Vec<Row>, OutOfMemory> {
 }
 
 /// The rows with what is above beneath, and what is beneath above.
-fn mirrored(alloc: Global, rows: &[Row]) -> Result<Vec<Row>, OutOfMemory> {
+fn mirrored(alloc: Global, rows: &[OrderRow]) -> Result<Vec<OrderRow>, OutOfMemory> {
     let mut copies = Vec::with_capacity(alloc, rows.len())?;
     for row in rows {
-        copies.push(Row {
+        copies.push(OrderRow {
             look: row.look,
-            standing: row.standing,
+            staying: row.staying,
             spot: mirrored_spot(row.spot),
         })?;
     }
@@ -139,7 +139,7 @@ fn mirror_all(layers: &mut Vec<u16>) {
 }
 
 /// How many versions get another layer.
-fn changed(rows: &[Row], layers: &[u16]) -> usize {
+fn changed(rows: &[OrderRow], layers: &[u16]) -> usize {
     let mut count = 0usize;
     for (row, layer) in rows.iter().zip(layers.iter()) {
         match row.spot {
@@ -164,7 +164,7 @@ fn given_anew(alloc: Global, count: usize) -> Result<Vec<u16>, OutOfMemory> {
 
 /// The layers of figures that are listed from the back to the front, each above those behind it
 /// that matter. None where one would be above the highest layer.
-fn raise_all(alloc: Global, rows: &[Row]) -> Result<Option<Vec<u16>>, OutOfMemory> {
+fn raise_all(alloc: Global, rows: &[OrderRow]) -> Result<Option<Vec<u16>>, OutOfMemory> {
     let mut done = Vec::with_capacity(alloc, rows.len())?;
     let mut layers = Vec::with_capacity(alloc, rows.len())?;
     let mut top: Option<Spot> = None;
@@ -181,7 +181,12 @@ fn raise_all(alloc: Global, rows: &[Row]) -> Result<Option<Vec<u16>>, OutOfMemor
 
 /// Where a figure goes, between those behind it, which are done, and those in front of it.
 /// What is above `top` is above all that is done.
-fn spot_of(row: &Row, top: Option<Spot>, done: &[(Look, Spot)], front: &[Row]) -> Option<Spot> {
+fn spot_of(
+    row: &OrderRow,
+    top: Option<Spot>,
+    done: &[(Look, Spot)],
+    front: &[OrderRow],
+) -> Option<Spot> {
     if let Some(spot) = row.spot {
         let is_on_top = match top {
             Some(top) => is_above(spot, top),
@@ -198,7 +203,7 @@ fn spot_of(row: &Row, top: Option<Spot>, done: &[(Look, Spot)], front: &[Row]) -
 }
 
 /// The layer of a figure that gets a new one, between all others or those that matter.
-fn new_layer(row: &Row, done: &[(Look, Spot)], front: &[Row]) -> Option<u16> {
+fn new_layer(row: &OrderRow, done: &[(Look, Spot)], front: &[OrderRow]) -> Option<u16> {
     if let Some(layer) = between(row, done, front, false) {
         return Some(layer);
     }
@@ -209,11 +214,11 @@ fn new_layer(row: &Row, done: &[(Look, Spot)], front: &[Row]) -> Option<u16> {
 }
 
 /// Whether a figure that is above those behind it that matter stays where it stands.
-fn stays(spot: Spot, row: &Row, done: &[(Look, Spot)], front: &[Row]) -> bool {
-    match row.standing {
-        Standing::Kept => true,
-        Standing::Unwritten => is_under(spot, row, front, true),
-        Standing::Moved => {
+fn stays(spot: Spot, row: &OrderRow, done: &[(Look, Spot)], front: &[OrderRow]) -> bool {
+    match row.staying {
+        Staying::Kept => true,
+        Staying::Unwritten => is_under(spot, row, front, true),
+        Staying::Moved => {
             is_over(spot, row, done, false) && is_under(spot, row, front, false)
                 || is_under(spot, row, front, true) && between(row, done, front, false).is_none()
         }
@@ -245,7 +250,7 @@ fn next_above(layer: Option<u16>) -> Option<u16> {
 }
 
 /// The highest layer of the figures behind, or of those that matter.
-fn highest_behind(row: &Row, done: &[(Look, Spot)], matters: bool) -> Option<u16> {
+fn highest_behind(row: &OrderRow, done: &[(Look, Spot)], matters: bool) -> Option<u16> {
     let mut highest = None;
     for (look, spot) in done {
         if !matters || matter(row.look, *look) {
@@ -257,11 +262,16 @@ fn highest_behind(row: &Row, done: &[(Look, Spot)], matters: bool) -> Option<u16
 
 /// A layer above the figures behind and beneath the kept ones in front, if there is one: of those
 /// that matter, or of all.
-fn between(row: &Row, done: &[(Look, Spot)], front: &[Row], matters: bool) -> Option<u16> {
+fn between(
+    row: &OrderRow,
+    done: &[(Look, Spot)],
+    front: &[OrderRow],
+    matters: bool,
+) -> Option<u16> {
     let low = highest_behind(row, done, matters);
     let mut high: Option<u16> = None;
     for other in front {
-        if let (Standing::Kept, Some(spot)) = (other.standing, other.spot) {
+        if let (Staying::Kept, Some(spot)) = (other.staying, other.spot) {
             if !matters || matter(row.look, other.look) {
                 high = Some(high.unwrap_or(TOP).min(spot.layer));
             }
@@ -283,7 +293,7 @@ fn room(low: Option<u16>, high: Option<u16>) -> Option<u16> {
 }
 
 /// Whether a spot is above each of the figures behind, or of those that matter.
-fn is_over(spot: Spot, row: &Row, done: &[(Look, Spot)], matters: bool) -> bool {
+fn is_over(spot: Spot, row: &OrderRow, done: &[(Look, Spot)], matters: bool) -> bool {
     for (look, other) in done {
         if !is_above(spot, *other) && (!matters || matter(row.look, *look)) {
             return false;
@@ -293,9 +303,9 @@ fn is_over(spot: Spot, row: &Row, done: &[(Look, Spot)], matters: bool) -> bool 
 }
 
 /// Whether a spot is beneath each of the kept figures in front, or of those that matter.
-fn is_under(spot: Spot, row: &Row, front: &[Row], matters: bool) -> bool {
+fn is_under(spot: Spot, row: &OrderRow, front: &[OrderRow], matters: bool) -> bool {
     for other in front {
-        if let (Standing::Kept, Some(kept)) = (other.standing, other.spot) {
+        if let (Staying::Kept, Some(kept)) = (other.staying, other.spot) {
             if !is_above(kept, spot) && (!matters || matter(row.look, other.look)) {
                 return false;
             }

@@ -52,7 +52,7 @@ fn is_hidden_alike(version: &Version, figure: &Target) -> bool {
         return false;
     }
     match compared(version, &figure.start) {
-        Some(difference) => difference.count() == 0,
+        Some(comparison) => comparison.count() == 0,
         None => false,
     }
 }

@@ -1,4 +1,5 @@
-//! The operations on an object in classes: the members of a class conflict with the same operations.
+//! The operations on an object in classes: the members of a class conflict with the same
+//! operations.
 //!
 //! Setters are sorted by attribute, site and number. What one of them conflicts with directly is at
 //! most a range for each other site, less the setters of its own value. Setters with the same

@@ -47,7 +47,7 @@ use Rattle.gf_fig_named.specs.Comments.{name_lines}
 use Rattle.gf_fig_named.specs.NamedText.{IsNameOf, IsNamedText, first_lines, known_lines}
 use Rattle.gf_fig_named.specs.NamedText.{named_lines}
 use Rattle.gf_fig_named.specs.NamedText.{named_text}
-use Rattle.gf_fig_named.specs.Raised.{figure_raised, named_depth, raised}
+use Rattle.gf_fig_named.specs.Raised.{figure_raised, named_depth, drawing_raised}
 use Rattle.gf_fig_named.proofs.CommentLemmas.{known_silent, name_silent}
 use Rattle.gf_fig_named.proofs.RaisedLemmas.{IsRising, named_fits, named_rises, raised_colours}
 use Rattle.gf_fig_named.proofs.SilentLemmas.{EndsLine, behind_one, behind_pieces, reads_alike}
@@ -149,22 +149,24 @@ module _ {S : Type 0} (outline : S → Outline) where
       ap (λ r. figure_raised g (figure_outlined outline f) ∷ r) (raised-outlined g fs)
 
   outlined-raised : (g : ℕ → ℕ) (d : DrawingState S)
-      → outlined outline (raised g d) ≡ raised g (outlined outline d)
+      → outlined outline (drawing_raised g d) ≡ drawing_raised g (outlined outline d)
   outlined-raised g d =
       let e = raised-outlined g d.figures in λ i. record { table = d.table; figures = e i }
 
   -- a drawing of outlines keeps the colours of a history where its depths are raised in their order
   pub raised_paints : (h : List Op) (g : ℕ → ℕ) (d : DrawingState S) → IsRising g
-      → IsLawfulDrawing d → IsLawfulDrawing (raised g d) → PaintsAsFig h (outlined outline d)
-      → PaintsAsFig h (outlined outline (raised g d))
+      → IsLawfulDrawing d → IsLawfulDrawing (drawing_raised g d) → PaintsAsFig h
+      (outlined outline d)
+      → PaintsAsFig h (outlined outline (drawing_raised g d))
   raised_paints h g d rising lawful deep paints =
       let e = outlined outline d in
       let flat : All (IsLawfulFigure d.table) e.figures =
       All-map (IsLawfulFigure d.table) (figure_outlined outline) d.figures lawful.figures in
-      let low : All (IsLawfulFigure d.table) (outlined outline (raised g d)).figures =
-      All-map (IsLawfulFigure d.table) (figure_outlined outline) (raised g d).figures deep.figures
+      let low : All (IsLawfulFigure d.table) (outlined outline (drawing_raised g d)).figures =
+      All-map (IsLawfulFigure d.table) (figure_outlined outline) (drawing_raised g d).figures
+      deep.figures
       in
-      let under : All (IsLawfulFigure d.table) (raised g e).figures =
+      let under : All (IsLawfulFigure d.table) (drawing_raised g e).figures =
       subst (λ (k : DrawingState Outline). All (IsLawfulFigure d.table) k.figures)
       (outlined-raised g d) low in
       subst (PaintsAsFig h) (sym (outlined-raised g d))
@@ -214,7 +216,8 @@ module _ (h : List Op) (items : List (Placed AnyShape)) where
   pub is_named : AreRanked h items → Fits items → (names : List Name)
       → AllZip (IsNameOf h items) items names → (d : DrawingState AnyShape)
       → d ≡ canonical_drawing items → (text : List ℕ)
-      → text ≡ named_text any_outline (count_of h) names (raised (named_depth (length d.figures)) d)
+      → text ≡ named_text any_outline (count_of h) names
+      (drawing_raised (named_depth (length d.figures)) d)
       → IsNamedText h text
   is_named ranked fits names all d is text so =
       let long : length (canonical_figures items) ≡ length items =
@@ -228,9 +231,9 @@ module _ (h : List Op) (items : List (Placed AnyShape)) where
         named = all;
         is = so
             ∙ (ap (λ (e : DrawingState AnyShape). named_text any_outline (count_of h) names
-            (raised (named_depth (length e.figures)) e)) is
+            (drawing_raised (named_depth (length e.figures)) e)) is
             ∙ ap (λ n. named_text any_outline (count_of h) names
-            (raised (named_depth n) (canonical_drawing items))) long);
+            (drawing_raised (named_depth n) (canonical_drawing items))) long);
       }
 
 module _ (h : List Op) (text : List ℕ) (valid : IsValid h) (named : IsNamedText h text) where
@@ -241,7 +244,7 @@ module _ (h : List Op) (text : List ℕ) (valid : IsValid h) (named : IsNamedTex
   its_depth = named_depth (length named.items)
 
   abbrev pub its_raised : DrawingState AnyShape
-  its_raised = raised its_depth its_drawing
+  its_raised = drawing_raised its_depth its_drawing
 
   its_canonical : IsCanonical h its_drawing
   its_canonical = record {

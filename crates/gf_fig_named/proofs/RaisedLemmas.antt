@@ -12,7 +12,7 @@ use Rattle.gf_figures.specs.DrawingColour.{drawing_colour, figure_colour}
 use Rattle.gf_figures.specs.DrawingState.{DrawingState, IsLawfulFigure}
 use Rattle.gf_figures.specs.FrontMost.{front_at, is_no_deeper, nearer_at}
 use Rattle.gf_figures.proofs.DrawingLaw.{front_figure_colours}
-use Rattle.gf_fig_named.specs.Raised.{figure_raised, named_depth, raised}
+use Rattle.gf_fig_named.specs.Raised.{figure_raised, named_depth, drawing_raised}
 
 -- g keeps the order of numbers
 abbrev pub IsRising : (ℕ → ℕ) → Type 0
@@ -74,11 +74,11 @@ module _ (g : ℕ → ℕ) (rising : IsRising g) where
 
     -- the colours are those before the depths were raised
     pub raised_colours : (d : DrawingState S) → All (IsLawfulFigure d.table) d.figures
-        → All (IsLawfulFigure d.table) (raised g d).figures
-        → drawing_colour holds d.table (raised g d).figures p
+        → All (IsLawfulFigure d.table) (drawing_raised g d).figures
+        → drawing_colour holds d.table (drawing_raised g d).figures p
         ≡ drawing_colour holds d.table d.figures p
     raised_colours d lawful deep =
-        front_figure_colours holds d.table (raised g d).figures p deep
+        front_figure_colours holds d.table (drawing_raised g d).figures p deep
         ∙ (ap (λ o. unwrap_or (option_map (figure_colour d.table) o) white)
         (front_kept None d.figures)
         ∙ (colour_kept d.table (front_at holds p d.figures)

@@ -19,7 +19,7 @@ use Rattle.gf_drawing.specs.CanonicalDrawing.{Fits, canonical_drawing, colours_o
 use Rattle.gf_fig_write.specs.FigText.{colour_line, figure_lines}
 use Rattle.gf_fig_named.specs.declared.naming.Name.{Name}
 use Rattle.gf_fig_named.specs.Comments.{knows_comment, name_lines}
-use Rattle.gf_fig_named.specs.Raised.{named_depth, raised}
+use Rattle.gf_fig_named.specs.Raised.{named_depth, drawing_raised}
 
 -- the eight lines before what is known
 abbrev pub first_lines : List ℕ
@@ -65,7 +65,7 @@ pub record IsNamedText (h : List Op) (text : List ℕ) : Type 0 where
   pub names : List Name
   pub named : AllZip (IsNameOf h items) items names
   pub is : text ≡ named_text any_outline (count_of h) names
-      (raised (named_depth (length items)) (canonical_drawing items))
+      (drawing_raised (named_depth (length items)) (canonical_drawing items))
 
 -- h has at most 1,000 visible versions, of more than 512 distinct colours
 pub record HasMoreColours (h : List Op) : Type 0 where

@@ -8,8 +8,8 @@ abbrev pub figure_raised : {S : Type 0} → (ℕ → ℕ) → Figure S → Figur
 figure_raised g f = record { shape = f.shape; colour = f.colour; depth = g f.depth }
 
 -- the drawing d, each figure at the depth that g gives for its own
-abbrev pub raised : {S : Type 0} → (ℕ → ℕ) → DrawingState S → DrawingState S
-raised g d = record { table = d.table; figures = map (figure_raised g) d.figures }
+abbrev pub drawing_raised : {S : Type 0} → (ℕ → ℕ) → DrawingState S → DrawingState S
+drawing_raised g d = record { table = d.table; figures = map (figure_raised g) d.figures }
 
 -- the depth of figure n of a named text, which has so many figures: room in front, and between
 -- figures as far as there is

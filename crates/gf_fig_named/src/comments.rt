@@ -2,30 +2,14 @@
 
 ghost use Rattle.std.specs.Prelude.{◌≡◌, ◌++◌, OnOk, IfOk, flat_map};
 ghost use Rattle.std.specs.List.{enumerate_from, range_with_len};
-ghost use Rattle.gf_ops.specs.OperationOrder.{IsSite, count_of, entry};
+ghost use Rattle.gf_ops.specs.OperationOrder.{IsSite, entry};
 ghost use Rattle.gf_fig_named.specs.Comments.{before_id, known_site, knows_comment};
 ghost use Rattle.gf_fig_named.specs.Comments.{name_lines, nth_id, or_nothing, spaced_id};
 
 use crate::Name;
 use gf_base::{OutOfMemory, push_number};
-use gf_ops::{Clock, History, OpId, push_id};
+use gf_ops::{Clock, OpId, push_id};
 use std::alloc::{AllocError, Global};
-
-/// How many operations of each site a history has.
-pub(crate) fn counts_of(history: &History) -> Clock
-    ensures { knows_comment (entry result) ≡ knows_comment (count_of history.now.ops) }
-{
-    Clock([
-        history.count(1),
-        history.count(2),
-        history.count(3),
-        history.count(4),
-        history.count(5),
-        history.count(6),
-        history.count(7),
-        history.count(8),
-    ])
-}
 
 /// The comment that so many operations of each site are known.
 pub(crate) fn knows_comment(alloc: Global, counts: &Clock) -> Result<Vec<u8>, OutOfMemory>

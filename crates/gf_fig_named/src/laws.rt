@@ -9,7 +9,7 @@ ghost use Rattle.gf_drawing.specs.CanonicalDrawing.{canonical_drawing};
 ghost use Rattle.gf_fig_read.specs.FigGrammar.{Reads};
 ghost use Rattle.gf_fig_write.specs.ShownHistory.{Shows};
 ghost use Rattle.gf_fig_named.specs.NamedText.{IsNamedText};
-ghost use Rattle.gf_fig_named.specs.Raised.{named_depth, raised};
+ghost use Rattle.gf_fig_named.specs.Raised.{named_depth, drawing_raised};
 
 /// The named text of a valid history reads as the drawing of its outlines, at the depths of a named
 /// text. Each drawing that it reads as has at every grid point the colour that the history means
@@ -17,7 +17,7 @@ ghost use Rattle.gf_fig_named.specs.Raised.{named_depth, raised};
 pub fn the_named_text_of_a_history_shows_it()
     ensures reads { (h : List Op) (text : List ℕ) → IsValid h → (named : IsNamedText h text)
         → Reads text (outlined any_outline
-        (raised (named_depth (length named.items)) (canonical_drawing named.items))) }
+        (drawing_raised (named_depth (length named.items)) (canonical_drawing named.items))) }
     ensures shows { (h : List Op) (text : List ℕ) → IsValid h → IsNamedText h text
         → Shows text h }
 {}

@@ -10,10 +10,10 @@ ghost use Rattle.gf_drawing.specs.CanonicalDrawing.{colours_of};
 ghost use Rattle.gf_fig_write.specs.FigText.{figure_lines};
 ghost use Rattle.gf_fig_named.specs.NamedText.{IsNamedText, first_lines, known_lines};
 ghost use Rattle.gf_fig_named.specs.NamedText.{named_lines, named_text};
-ghost use Rattle.gf_fig_named.specs.Raised.{figure_raised, named_depth, raised};
+ghost use Rattle.gf_fig_named.specs.Raised.{figure_raised, named_depth, drawing_raised};
 
 use crate::Name;
-use crate::comments::{counts_of, knows_comment, push_name};
+use crate::comments::{knows_comment, push_name};
 use crate::naming::names_of;
 use gf_base::OutOfMemory;
 use gf_drawing::{CompileFault, compile};
@@ -65,9 +65,9 @@ fn text_of(
     requires { length names.now ≡ length drawing.now.figures }
     ensures { IfOk result (λ bytes. bytes.items ≡ named_text any_outline
         (count_of history.now.ops) names.now
-        (raised (named_depth (length drawing.now.figures)) drawing.now)) }
+        (drawing_raised (named_depth (length drawing.now.figures)) drawing.now)) }
 {
-    let knows = knows_comment(alloc, &counts_of(history))?;
+    let knows = knows_comment(alloc, &history.clock())?;
     let mut out = Vec::from_slice(alloc, FIRST_LINES)?;
     out.extend_from_slice(&knows)?;
     out.extend_from_slice(b"\n1200 2\n")?;

@@ -6,8 +6,8 @@
 //! - [`FigError`]: the first fault of a text that reads as none, a [`FigFault`], and its object.
 //! - [`object_line`], [`fault_line`]: the line on which an object begins, and the line at which a
 //!   fault is reported.
-//! - [`every_text_reads_as_one_drawing_or_fails_once`], [`what_a_text_reads_as_is_lawful`]: the laws
-//!   of the grammar.
+//! - [`every_text_reads_as_one_drawing_or_fails_once`], [`what_a_text_reads_as_is_lawful`]: the
+//!   laws of the grammar.
 #![tactic(auto)]
 
 mod faults;

@@ -6,22 +6,15 @@ ghost use Rattle.std.specs.List.Sorted.{IsNonDecreasingBy};
 ghost use Rattle.gf_plane.specs.declared.point.Point.{Point};
 ghost use Rattle.gf_figures.specs.Colours.{colour_in, rgb_of, standard_colours};
 ghost use Rattle.gf_figures.specs.DrawingState.{IsFreeNumber, IsLawfulDrawing, IsLawfulFigure};
-ghost use Rattle.gf_figures.specs.DrawingColour.{drawing_colour, figures_at, from_front};
-ghost use Rattle.gf_figures.specs.DrawingColour.{front_colour};
+ghost use Rattle.gf_figures.specs.DrawingColour.{drawing_colour, figure_colour, figures_at};
+ghost use Rattle.gf_figures.specs.DrawingColour.{from_front, front_colour};
 ghost use Rattle.gf_figures.specs.FrontMost.{front_at, is_no_deeper, nearer_at};
 
 use crate::{ColourTable, Figure};
 use gf_base::OutOfMemory;
-use gf_shape::{Point, Rgb, Shape};
+use gf_shape::{Point, Rgb, Shape, WHITE};
 use std::alloc::Global;
 use std::marker::Model;
-
-/// The ground of a drawing.
-const WHITE: Rgb = Rgb {
-    r: 255,
-    g: 255,
-    b: 255,
-};
 
 /// Figures over a white ground, with the table of their colours.
 #[derive(Drop)]
@@ -91,12 +84,19 @@ impl<S: Shape> Drawing<S> {
         standard_colour(number).or(self.table.colour(number))
     }
 
+    /// The colour of a figure by its number, white if the number has none.
+    pub fn figure_colour(&self, figure: &Figure<S>) -> Rgb
+        ensures { result ≡ figure_colour self.now.table figure.now }
+    {
+        self.rgb(figure.colour).unwrap_or(WHITE)
+    }
+
     /// The colour at a point, in one pass over the figures.
     pub fn colour_at(&self, p: Point) -> Rgb
         ensures { result ≡ drawing_colour S.holds self.now.table self.now.figures p }
     {
         match front_at(&self.figures, p) {
-            Some(figure) => self.rgb(figure.colour).unwrap_or(WHITE),
+            Some(figure) => self.figure_colour(figure),
             None => WHITE,
         }
     }

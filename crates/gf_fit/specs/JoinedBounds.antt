@@ -1,7 +1,7 @@
 -- The least bounds around two. No public clause cites this module.
 use Rattle.std.specs.Prelude.{Option, None, Some}
 use Rattle.gf_shape.specs.declared.bounds.Bounds.{Bounds}
-use Rattle.gf_shape.specs.BoundsOf.{least, most}
+use Rattle.gf_plane.specs.Corners.{least, most}
 
 -- the least bounds around a and b
 abbrev pub joined : Bounds → Bounds → Bounds

@@ -2,11 +2,10 @@
 
 ghost use Rattle.std.specs.Prelude.{◌≡◌, Option, None, Some};
 ghost use Rattle.gf_fit.specs.FittedWindow.{AreBounds, held};
-ghost use Rattle.gf_shape.specs.BoundsOf.{least, most};
 ghost use Rattle.gf_fit.specs.JoinedBounds.{joined, widened};
 
 use gf_figures::Figure;
-use gf_shape::{Bounds, Point, Shape};
+use gf_shape::{Bounds, Shape};
 
 /// The least bounds of all points that figures hold, in one pass over the figures.
 pub(crate) fn bounds_of<S: Shape>(figures: &[Figure<S>]) -> Option<Bounds>
@@ -34,27 +33,7 @@ fn joined(a: Bounds, b: Bounds) -> Bounds
     ensures { result ≡ joined a b }
 {
     Bounds {
-        low: least(a.low, b.low),
-        high: most(a.high, b.high),
-    }
-}
-
-/// The lesser of both coordinates.
-fn least(p: Point, q: Point) -> Point
-    ensures { result ≡ least p q }
-{
-    Point {
-        x: p.x.min(q.x),
-        y: p.y.min(q.y),
-    }
-}
-
-/// The greater of both coordinates.
-fn most(p: Point, q: Point) -> Point
-    ensures { result ≡ most p q }
-{
-    Point {
-        x: p.x.max(q.x),
-        y: p.y.max(q.y),
+        low: a.low.least(b.low),
+        high: a.high.most(b.high),
     }
 }

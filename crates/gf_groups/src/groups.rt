@@ -41,12 +41,12 @@ pub fn groups_from(
     history.recall_valid();
     let mut groups = Vec::new(alloc);
     add_groups(alloc, history, object, sets, &mut groups)?;
-    sort(&mut groups)?;
+    sort_groups(&mut groups)?;
     Ok(Groups::new(groups))
 }
 
-/// Puts the groups in the order of their ids.
-fn sort(groups: &mut Vec<Group>) -> Result<(), OutOfMemory>
+/// Puts groups in the order of their ids.
+pub fn sort_groups(groups: &mut Vec<Group>) -> Result<(), OutOfMemory>
     ensures moved { IsPermutation groups.old.items groups.new.items }
     ensures sorted { OnOk result (IsSorted group_cmp groups.new.items) }
 {

@@ -9,7 +9,8 @@
 //!
 //! - [`groups_from`]: the groups of an object, from the largest sets of positions without a
 //!   conflict. [`add_groups`] adds such groups to others.
-//! - [`rising_ids`]: the ids of the operations at some positions.
+//! - [`rising_ids`]: the ids of the operations at some positions. [`sort_groups`] puts groups in
+//!   the order of their ids.
 #![tactic(auto)]
 
 mod faults;
@@ -20,6 +21,6 @@ mod listing;
 
 pub use faults::GroupFault;
 pub use group::{Group, Groups};
-pub use groups::{groups_from, is_made};
+pub use groups::{groups_from, is_made, sort_groups};
 pub use laws::{each_operation_stands_in_a_version, the_versions_are_a_list_that_computes};
 pub use listing::{add_groups, rising_ids};

@@ -1,18 +1,17 @@
 //! The visible versions of an object that hold some operations.
 
-ghost use Rattle.std.specs.Prelude.{◌≡◌, IfOk, IfErr, OnOk, IfNone, IfSome, filter};
+ghost use Rattle.std.specs.Prelude.{◌≡◌, IfOk, IfNone, IfSome, filter};
 ghost use Rattle.std.specs.List.{list_all, list_any};
-ghost use Rattle.std.specs.List.Sorted.{IsPermutation, IsSorted};
 ghost use Rattle.gf_groups.specs.VersionList.{id_eq};
-ghost use Rattle.gf_groups.specs.Versions.{IsMade, group_cmp};
+ghost use Rattle.gf_groups.specs.Versions.{IsMade};
 ghost use Rattle.gf_versions.specs.declared.ranking.TheConstants.{MOST_VERSIONS};
-ghost use Rattle.gf_visible.specs.ShownVersions.{AreVisibleOn, HasMoreOn};
+ghost use Rattle.gf_visible.specs.ShownVersions.{HasMoreOn};
 ghost use Rattle.gf_keep.specs.Keeping.{AreKept};
 ghost use Rattle.gf_keep.specs.KeepSteps.{has_all};
 
 use crate::Keep;
 use gf_base::OutOfMemory;
-use gf_groups::Group;
+use gf_groups::{Group, sort_groups};
 use gf_listing::Versions;
 use gf_ops::{History, OpId};
 use gf_table::IndexedHistory;
@@ -57,7 +56,7 @@ fn kept_of(
         return Ok(None);
     };
     let mut kept = those_with(alloc, groups, keep.with.as_slice())?;
-    sort(&mut kept)?;
+    sort_groups(&mut kept)?;
     Ok(Some(kept))
 }
 
@@ -95,13 +94,4 @@ fn is_in(others: &[OpId], id: OpId) -> bool
     others
         .iter()
         .any(|other| id.site == other.site && id.seq == other.seq)
-}
-
-/// Puts the groups in the order of their ids.
-fn sort(groups: &mut Vec<Group>) -> Result<(), OutOfMemory>
-    ensures moved { IsPermutation groups.old.items groups.new.items }
-    ensures sorted { OnOk result (IsSorted group_cmp groups.new.items) }
-{
-    groups.sort_by(|a, b| a.ops.as_slice().cmp(b.ops.as_slice()))?;
-    Ok(())
 }

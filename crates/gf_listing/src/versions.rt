@@ -121,7 +121,8 @@ impl<'h> Versions<'h> {
 
     /// The classes of the operations on an object, by their positions in the history.
     pub fn classes(&self, alloc: Global, object: ObjectId) -> Result<Classes, OutOfMemory>
-        ensures { IfOk result (λ found. AreClassesOf self.now (positions_on self.now object) found) }
+        ensures { IfOk result (λ found.
+            AreClassesOf self.now (positions_on self.now object) found) }
     {
         classes_of(alloc, self.history, object, self.table.positions(object))
     }

@@ -1,7 +1,8 @@
 //! The growth of largest compatible sets by one number, so that each new set is the cut of one old
 //! set. What may be refused is asked first, and of the other numbers only those in doubt.
 
-ghost use Rattle.std.specs.Prelude.{◌≡◌, ◌||◌, ◌&&◌, ◌<◌, ◌++◌, ℕ, true, false, length, map, filter};
+ghost use Rattle.std.specs.Prelude.{◌≡◌, ◌||◌, ◌&&◌, ◌<◌, ◌++◌, ℕ, true, false, length, map};
+ghost use Rattle.std.specs.Prelude.{filter};
 ghost use Rattle.std.specs.Prelude.{List, Contains, IfOk, OnOk, ◌+◌, ◌^◌, nat_lt};
 ghost use Rattle.std.specs.List.{list_any, list_all, fold};
 ghost use Rattle.std.specs.Option.{MatchOption};
@@ -9,7 +10,8 @@ ghost use Rattle.gf_maximal.specs.Growing.{is_in, intersects, without, common};
 ghost use Rattle.gf_maximal.specs.LargestSets.{IsLargest, AreLargest};
 ghost use Rattle.gf_maximal.specs.Parents.{met, cut, is_told, is_parent, next_cut};
 ghost use Rattle.gf_maximal.specs.Rows.{row, conflict, AreRows};
-ghost use Rattle.gf_maximal.specs.Cutting.{spared, keepers, IsWitness, IsAsked, AreDoubtful, IsRest};
+ghost use Rattle.gf_maximal.specs.Cutting.{spared, keepers, IsWitness, IsAsked, AreDoubtful};
+ghost use Rattle.gf_maximal.specs.Cutting.{IsRest};
 
 use crate::numbers::Numbers;
 use gf_base::OutOfMemory;

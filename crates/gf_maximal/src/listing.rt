@@ -1,6 +1,7 @@
 //! All largest compatible sets of some numbers, listed or counted.
 
-ghost use Rattle.std.specs.Prelude.{◌≡◌, ◌+◌, ◌<◌, ℕ, [], ◌∷◌, List, Contains, cond, length, nat_le};
+ghost use Rattle.std.specs.Prelude.{◌≡◌, ◌+◌, ◌<◌, ℕ, [], ◌∷◌, List, Contains, cond, length};
+ghost use Rattle.std.specs.Prelude.{nat_le};
 ghost use Rattle.std.specs.Prelude.{IfOk, OnOk};
 ghost use Rattle.gf_maximal.specs.Cutting.{IsGrown};
 ghost use Rattle.gf_maximal.specs.Growing.{joined};

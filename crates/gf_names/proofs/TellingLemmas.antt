@@ -2,12 +2,12 @@
 use Rattle.std.proofs.Common.{◌≡◌, true, ℕ, ◌+◌, ◌≤◌, ◌<◌, List, [], ◌∷◌, ◌++◌, get_or, refl, sym, subst}
 use Rattle.std.proofs.Common.{ap, ◌∙◌, arith, inl, inr}
 use Rattle.std.specs.Prelude.{◌↔◌, ◌⊎◌, ◌==◌, Contains, Option, Some, None, filter, length, take}
-use Rattle.std.specs.Prelude.{drop, Ok, Err, Result, IfOk}
+use Rattle.std.specs.Prelude.{Ok, Err, Result, IfOk}
 use Rattle.std.specs.BTreeSet.{insert_key}
 use Rattle.std.specs.List.{fold}
 use Rattle.std.proofs.lemmas.Bool.{cases_lt, eqb-true}
 use Rattle.std.proofs.lemmas.Bool.Decides.{Decides-eqb}
-use Rattle.std.proofs.lemmas.List.{at_drop_more, nil_from_length, take_all, take_more}
+use Rattle.std.proofs.lemmas.List.{nil_from_length, take_all, take_more}
 use Rattle.std.proofs.lemmas.List.Elements.{Contains-append_left, Contains-push}
 use Rattle.std.proofs.lemmas.List.Elements.{Contains-push_cases}
 use Rattle.gf_base.proofs.FilterLemmas.{Contains-filter}
@@ -27,13 +27,6 @@ use Rattle.gf_names.specs.RisingIds.{IsRisingOf}
 use Rattle.gf_names.specs.Telling.{IsTelling, AreTelling}
 use Rattle.gf_names.specs.LastConflict.{AreOfOneSite, IsAbove, IsLastConflict, TellsLast, TellsAt}
 use Rattle.gf_names.specs.LastConflict.{TellsFrom}
-
-pub set_more : (ids : List OpId) (n : ℕ) (d : OpId) (old new : List OpId) → n < length ids
-    → fold (insert_key id_cmp) old (drop n ids) ≡ fold (insert_key id_cmp) [] ids
-    → new ≡ insert_key id_cmp old (get_or ids n d)
-    → fold (insert_key id_cmp) new (drop (n + 1) ids) ≡ fold (insert_key id_cmp) [] ids
-set_more ids n d old new within was e = ap (λ (s : List OpId). fold (insert_key id_cmp) s
-    (drop (n + 1) ids)) e ∙ (sym (at_drop_more (fold (insert_key id_cmp) old) ids n d within) ∙ was)
 
 pub rising_told : (given found : List OpId) → found ≡ fold (insert_key id_cmp) [] given
     → IsRisingOf given found

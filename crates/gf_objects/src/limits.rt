@@ -1,12 +1,10 @@
 //! Whether an object can begin so, within the limits of operations.
 
 ghost use Rattle.std.specs.Prelude.{◌≡◌};
-ghost use Rattle.std.specs.List.{list_all};
-ghost use Rattle.gf_ops.specs.Limits.{is_near, is_size};
 ghost use Rattle.gf_objects.specs.StartFaults.{form_fault, points_fault, start_fault, unless};
 
 use crate::FigureFault;
-use gf_ops::{Form, Start};
+use gf_ops::{Form, Start, are_near, is_near, is_size};
 use gf_shape::Point;
 
 /// The first limit of operations that the beginning of an object breaks: of its place, then of its
@@ -51,23 +49,4 @@ fn unless(holds: bool, fault: FigureFault) -> Option<FigureFault>
     ensures { result ≡ unless holds fault }
 {
     if holds { None } else { Some(fault) }
-}
-
-fn is_size(n: u32) -> bool
-    ensures { result ≡ is_size n }
-{
-    1 <= n && n <= 1_000_000
-}
-
-fn are_near(points: &[Point]) -> bool
-    ensures { result ≡ list_all is_near points.now }
-{
-    points.iter().all(|p| is_near(*p))
-}
-
-#[tactic(auto, using(std::proofs::lemmas::Int::ints), unfolding(gf_ops::specs::Limits::is_near))]
-fn is_near(p: Point) -> bool
-    ensures { result ≡ is_near p }
-{
-    -1_000_000 <= p.x && p.x <= 1_000_000 && -1_000_000 <= p.y && p.y <= 1_000_000
 }

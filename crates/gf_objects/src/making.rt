@@ -17,13 +17,6 @@ use gf_ops::{Form, Points, Start};
 use gf_shape::{Chain, Outline, Point, Rgb};
 use std::alloc::Global;
 
-/// The colour of a figure whose number has none.
-const WHITE: Rgb = Rgb {
-    r: 255,
-    g: 255,
-    b: 255,
-};
-
 /// The layer of a figure at the depth 0.
 const FRONT: u16 = 999;
 
@@ -52,7 +45,7 @@ pub fn colour_of(drawing: &Drawing<Outline>, figure: &Figure<Outline>) -> Rgb
     ensures colour { result ≡ figure_colour drawing.now.table figure.now }
     ensures in_range { IsTrue (is_colour result) }
 {
-    drawing.rgb(figure.colour).unwrap_or(WHITE)
+    drawing.figure_colour(figure)
 }
 
 /// The number of the FIG object of a figure of this index, counted from 1 with the colours.

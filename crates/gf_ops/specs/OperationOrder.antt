@@ -1,6 +1,6 @@
 -- Causal order and concurrency of operations (Sun and Chen, ACM TOCHI 9(1), 2002).
 use Rattle.std.specs.Prelude.{◌≢◌, ℕ, ◌-◌, ◌≤◌, Bool, true, ◌&&◌, List}
-use Rattle.std.specs.Prelude.{◌∷◌, slice_index, count_by}
+use Rattle.std.specs.Prelude.{[], ◌∷◌, slice_index, count_by}
 use Rattle.std.specs.Prelude.{nat_eq}
 use Rattle.std.specs.declared.cmp.Ordering.{Ordering}
 use Rattle.std.specs.Ordering.{ordering_then, nat_cmp, is_lt}
@@ -19,6 +19,14 @@ entry clock s = slice_index clock.0 (s - 1)
 -- how many operations of site s are in h
 abbrev pub count_of : List Op → ℕ → ℕ
 count_of h s = count_by (λ a. nat_eq a.id.site s) h
+
+-- the clock that counts the operations of h
+abbrev pub clock_of : List Op → Clock
+clock_of h =
+    record {
+      0 = count_of h 1 ∷ count_of h 2 ∷ count_of h 3 ∷ count_of h 4 ∷ count_of h 5
+          ∷ count_of h 6 ∷ count_of h 7 ∷ count_of h 8 ∷ [];
+    }
 
 -- a comes before b
 abbrev pub Precedes : Op → Op → Type 0

@@ -9,7 +9,7 @@ ghost use Rattle.gf_ops.specs.Accepted.{AreAccepted, IsAccepted, IsRefused};
 ghost use Rattle.gf_ops.specs.Attribute.{kind_of, suits};
 ghost use Rattle.gf_ops.specs.KnownObject.{Knows, KnowsSome, IsFounded, IsSuited};
 ghost use Rattle.gf_ops.specs.Limits.{IsInRange};
-ghost use Rattle.gf_ops.specs.OperationOrder.{count_of};
+ghost use Rattle.gf_ops.specs.OperationOrder.{clock_of, count_of};
 ghost use Rattle.gf_ops.specs.Standing.{StandsAt};
 ghost use Rattle.gf_ops.specs.ValidHistory.{IsWithin, IsValid};
 
@@ -80,6 +80,22 @@ impl History {
         } else {
             0
         }
+    }
+
+    /// The clock that counts the history.
+    pub fn clock(&self) -> Clock
+        ensures { result ≡ clock_of self.now.ops }
+    {
+        Clock([
+            self.count(1),
+            self.count(2),
+            self.count(3),
+            self.count(4),
+            self.count(5),
+            self.count(6),
+            self.count(7),
+            self.count(8),
+        ])
     }
 
     /// The operation under this id. The call takes constant time.

@@ -1,13 +1,17 @@
 //! Lists of operation ids.
 
-ghost use Rattle.std.specs.Prelude.{◌≡◌, IfOk};
+ghost use Rattle.std.specs.Prelude.{◌≡◌, [], IfOk};
+ghost use Rattle.std.specs.BTreeSet.{insert_key};
+ghost use Rattle.std.specs.List.{fold};
 ghost use Rattle.std.proofs.Common.{rules};
 ghost use Rattle.std.specs.Cmp.Rules.{comparing};
+ghost use Rattle.gf_ops.specs.OperationOrder.{id_cmp};
 ghost use Rattle.gf_ops.specs.SameIds.{ids_eq};
 
 use crate::OpId;
 use gf_base::OutOfMemory;
 use std::alloc::Global;
+use std::collections::BTreeSet;
 use std::marker::Model;
 
 /// The ids of some operations, seen as their list.
@@ -48,6 +52,17 @@ impl Ids {
         ids.extend_from_slice(self.as_slice())?;
         Ok(Ids::new(ids))
     }
+}
+
+/// The set of the given ids.
+pub fn id_set(alloc: Global, ids: &[OpId]) -> Result<BTreeSet<OpId>, OutOfMemory>
+    ensures { IfOk result (λ set. set.keys ≡ fold (insert_key id_cmp) [] ids.now) }
+{
+    let mut set = BTreeSet::new(alloc);
+    for id in ids {
+        set.insert(*id)?;
+    }
+    Ok(set)
 }
 
 impl PartialEq for Ids {

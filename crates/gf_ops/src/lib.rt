@@ -7,8 +7,10 @@
 //! - [`same_op`]: whether two operations agree in everything.
 //! - [`before`], [`concurrent`]: the causal order of operations.
 //! - [`conflicts`]: whether two operations cannot stand in one version; [`direct_conflict`]:
-//!   whether they cannot by themselves, whatever their aims, which are [`Ids`].
+//!   whether they cannot by themselves, whatever their aims, which are [`Ids`]. [`id_set`] makes a
+//!   set of ids.
 //! - [`History`]: the operations that a site has, always a valid history.
+//! - [`is_near`], [`are_near`], [`is_size`]: limits of places, points and sizes.
 //! - [`OpFault`], [`AddFault`]: why an operation was not added.
 //! - [`push_id`], [`push_spaced_ids`]: the text of ids.
 //! - [`before_is_a_strict_order`], [`conflict_is_symmetric_and_irreflexive`]: the laws.
@@ -35,12 +37,13 @@ pub use conflict::{conflicts, direct_conflict};
 pub use faults::{AddFault, OpFault};
 pub use history::History;
 pub use id_text::{push_id, push_spaced_ids};
-pub use ids::Ids;
+pub use ids::{Ids, id_set};
 pub use laws::{
     a_version_holds_the_aims_of_its_members, before_is_a_strict_order,
     conflict_is_symmetric_and_irreflexive, conflicts_come_from_aims,
     direct_conflict_is_symmetric_and_irreflexive, without_aims_conflicts_are_direct,
 };
+pub use limits::{are_near, is_near, is_size};
 pub use op::{Clock, ObjectId, Op, OpId};
 pub use order::{before, concurrent};
 pub use points::Points;

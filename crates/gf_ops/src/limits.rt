@@ -17,7 +17,16 @@ impl Op {
     pub fn in_range(&self) -> bool
         ensures { result ≡ is_in_range self.now }
     {
-        is_id(self.id) && is_clock(&self.past) && self.change.in_range()
+        self.id.in_range() && is_clock(&self.past) && self.change.in_range()
+    }
+}
+
+impl OpId {
+    /// Whether the id names one of the first 10,000 operations of a site.
+    pub fn in_range(self) -> bool
+        ensures { result ≡ is_id self }
+    {
+        is_site(self.site) && 1 <= self.seq && self.seq <= 10_000
     }
 }
 
@@ -30,7 +39,7 @@ impl Change {
         match self {
             Change::Create(start) => is_start(start),
             Change::Set { object, value, aim } => {
-                is_id(object.0) && is_value(value) && is_aim(aim.as_slice())
+                object.0.in_range() && is_value(value) && is_aim(aim.as_slice())
             }
         }
     }
@@ -40,12 +49,6 @@ fn is_site(site: u8) -> bool
     ensures { result ≡ is_site site }
 {
     (1..=8).contains(&site)
-}
-
-fn is_id(id: OpId) -> bool
-    ensures { result ≡ is_id id }
-{
-    is_site(id.site) && 1 <= id.seq && id.seq <= 10_000
 }
 
 /// Whether the first is before the second, by site and then by number.
@@ -81,7 +84,7 @@ fn ids_rise(ids: &[OpId]) -> bool
 fn are_ids(ids: &[OpId]) -> bool
     ensures { result ≡ list_all is_id ids.now }
 {
-    ids.iter().all(|id| is_id(*id))
+    ids.iter().all(|id| id.in_range())
 }
 
 fn is_aim(aim: &[OpId]) -> bool
@@ -96,7 +99,8 @@ fn is_clock(clock: &Clock) -> bool
     clock.0.iter().all(|n| *n <= 10_000)
 }
 
-fn is_size(n: u32) -> bool
+/// Whether a side or a radius is a size.
+pub fn is_size(n: u32) -> bool
     ensures { result ≡ is_size n }
 {
     1 <= n && n <= 1_000_000
@@ -163,14 +167,16 @@ fn is_polygon_count(n: usize) -> bool
     3 <= n && n <= 64
 }
 
-fn are_near(points: &[Point]) -> bool
+/// Whether all points are near.
+pub fn are_near(points: &[Point]) -> bool
     ensures { result ≡ list_all is_near points.now }
 {
     points.iter().all(|p| is_near(*p))
 }
 
+/// Whether a place lies as near as places have to.
 #[tactic(auto, using(std::proofs::lemmas::Int::ints), unfolding(crate::specs::Limits::is_near))]
-fn is_near(p: Point) -> bool
+pub fn is_near(p: Point) -> bool
     ensures { result ≡ is_near p }
 {
     -1_000_000 <= p.x && p.x <= 1_000_000 && -1_000_000 <= p.y && p.y <= 1_000_000

@@ -1,6 +1,7 @@
 //! Operations and their names.
 
-ghost use Rattle.std.specs.Prelude.{◌↔◌, IsTrue};
+ghost use Rattle.std.specs.Prelude.{◌≡◌, ◌↔◌, IsTrue};
+ghost use Rattle.gf_ops.specs.OperationOrder.{entry};
 ghost use Rattle.gf_ops.specs.ValidHistory.{IsWithin};
 
 use crate::Change;
@@ -28,6 +29,14 @@ pub struct ObjectId(pub OpId);
 pub struct Clock(pub [u32; 8]);
 
 impl Clock {
+    /// How many operations of a site the clock counts. Beyond 8 there is no site.
+    pub fn entry(&self, site: u8) -> u32
+        ensures { result ≡ entry self.now site }
+    {
+        let index = usize::from(site).saturating_sub(1);
+        self.0.get(index).copied().unwrap_or(0)
+    }
+
     /// Whether no entry of the clock is above that of the other clock.
     pub fn is_within(&self, other: &Clock) -> bool
         ensures { IsTrue result ↔ IsWithin self.now other.now }

@@ -7,3 +7,10 @@ pub struct Rgb {
     pub g: u8,
     pub b: u8,
 }
+
+/// The colour of the plane where nothing is drawn.
+pub const WHITE: Rgb = Rgb {
+    r: 255,
+    g: 255,
+    b: 255,
+};

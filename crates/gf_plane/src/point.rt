@@ -1,6 +1,7 @@
 //! Grid points, and how far from the axes those lie that a shape is made of.
 
 ghost use Rattle.std.specs.Prelude.{◌≡◌, ◌+ℤ◌, IsTrue};
+ghost use Rattle.gf_plane.specs.Corners.{least, most};
 ghost use Rattle.gf_plane.specs.Moving.{plus};
 ghost use Rattle.gf_plane.specs.Reach.{is_reached, is_within_reach};
 
@@ -37,6 +38,26 @@ impl Point {
         Point {
             x: sum(self.x, d.x),
             y: sum(self.y, d.y),
+        }
+    }
+
+    /// The lesser of both coordinates.
+    pub fn least(self, other: Point) -> Point
+        ensures { result ≡ least self other }
+    {
+        Point {
+            x: self.x.min(other.x),
+            y: self.y.min(other.y),
+        }
+    }
+
+    /// The greater of both coordinates.
+    pub fn most(self, other: Point) -> Point
+        ensures { result ≡ most self other }
+    {
+        Point {
+            x: self.x.max(other.x),
+            y: self.y.max(other.y),
         }
     }
 }

@@ -9,16 +9,9 @@ ghost use Rattle.gf_scanline.specs.Seen.{seen, seen_figure};
 use crate::{Brush, Layer};
 use gf_base::OutOfMemory;
 use gf_figures::{Drawing, Figure};
-use gf_shape::{Chain, Outline, Rgb, Shape};
+use gf_shape::{Chain, Outline, Shape, WHITE};
 use std::alloc::Global;
 use std::marker::Model;
-
-/// The ground of a drawing.
-const WHITE: Rgb = Rgb {
-    r: 255,
-    g: 255,
-    b: 255,
-};
 
 /// Layers over a white ground, the foremost first.
 #[derive(Drop)]
@@ -80,7 +73,7 @@ fn layer<'a, S: Shape>(
     ensures seen { IfOk result (λ l. seen l ≡ seen_figure drawing.now.table figure.now) }
     ensures layer { IfOk result (IsLayer S.holds) }
 {
-    let colour = drawing.rgb(figure.colour).unwrap_or(WHITE);
+    let colour = drawing.figure_colour(figure);
     let brush = Brush::new(alloc, colour)?;
     let chain = chain(alloc, &figure.shape)?;
     Ok(Layer {

@@ -1,7 +1,6 @@
 //! What a worker answers to a command that waits.
 
 ghost use Rattle.std.specs.Prelude.{◌≡◌, false};
-ghost use Rattle.gf_ops.specs.Limits.{is_id};
 ghost use Rattle.gf_worker.specs.Peers.{ArePlaced};
 ghost use Rattle.gf_worker.specs.Working.{Continues, Judges};
 
@@ -12,13 +11,6 @@ use gf_ops::OpId;
 use gf_site::Cause;
 use std::sync::Wait;
 
-/// Whether the id names one of the first 10,000 operations of a site.
-fn is_id(id: OpId) -> bool
-    ensures { result ≡ is_id id }
-{
-    (1..=8).contains(&id.site) && 1 <= id.seq && id.seq <= 10_000
-}
-
 impl Work {
     /// Waits for the operation under the id. The answer is why the wait is refused, if it is.
     pub(crate) fn judge<R: Wait>(&mut self, rt: &R, links: &[Link], id: OpId) -> Option<Cause>
@@ -26,7 +18,7 @@ impl Work {
         ensures continues { Continues self.old self.new }
         ensures judges { self.new.short ≡ false → Judges id self.new result }
     {
-        if !is_id(id) {
+        if !id.in_range() {
             return Some(Cause::Range);
         }
         if id.site == self.site.number() {

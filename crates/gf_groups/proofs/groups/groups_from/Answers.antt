@@ -22,8 +22,9 @@ returns c =
     let sets = c.args.sets.items in
     let made : c.add_groups.new.groups.items ≡ map (group_at h c.args.object)
     sets = rw c.new-groups.ensures.items at c.in_ok-add_groups.ensures in
-    let moved : IsPermutation (map (group_at h c.args.object) sets) c.sort.new.groups.items =
-    rw made at c.in_ok-sort.ensures.moved in
+    let moved : IsPermutation (map (group_at h c.args.object) sets) c.sort_groups.new.groups.items =
+    rw made at c.in_ok-sort_groups.ensures.moved in
     rw c.new.ensures (versions_sorted h c.recall_valid.ensures c.args.object us
     (all_positions h c.args.object) (positions_on-rising h c.args.object) sets
-    c.requires.table c.requires.made c.sort.new.groups.items moved c.in_ok-sort.ensures.sorted)
+    c.requires.table c.requires.made c.sort_groups.new.groups.items moved
+    c.in_ok-sort_groups.ensures.sorted)

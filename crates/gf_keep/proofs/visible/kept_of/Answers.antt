@@ -8,8 +8,8 @@ returns-clause-kept c =
     kept_at c.args.versions.now c.args.keep.now c.args.versions.now refl
     (λ (v : Vec Group Global). v.items) c.in_ok-groups.field-0 c.in-Some.groups c.in-Some.is
     c.in_ok-groups.ensures.groups
-    c.as_slice.result.now c.as_slice.ensures c.in_ok-kept.kept.items c.sort.new.groups.items
-    c.in_ok-kept.ensures c.in_ok-sort.ensures.moved c.in_ok-sort.ensures.sorted
+    c.as_slice.result.now c.as_slice.ensures c.in_ok-kept.kept.items c.sort_groups.new.groups.items
+    c.in_ok-kept.ensures c.in_ok-sort_groups.ensures.moved c.in_ok-sort_groups.ensures.sorted
 
 pub returns-clause-few : goal.returns-clause-few
 returns-clause-few c =

@@ -3,8 +3,7 @@ use Rattle.gf_figures.proofs.drawing.Drawing.colour_at.Goals as goal
 
 pub returns-in-Some : goal.returns-in-Some
 returns-in-Some g c = rw (
-  c.unwrap_or.ensures,
-  c.rgb.ensures,
+  c.figure_colour.ensures,
   ← c.self.view_is,
   front_figure_colours g.S.Shape.holds _ _ c.args.p c.self.invariant.figures,
   ← c.deref.ensures.value,

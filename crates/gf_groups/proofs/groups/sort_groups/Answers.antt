@@ -5,7 +5,7 @@ use Rattle.std.proofs.lemmas.List.Sorted.{answers_always, ranks_by}
 use Rattle.gf_groups.specs.declared.group.Group.{Group}
 use Rattle.gf_groups.specs.Versions.{group_cmp}
 use Rattle.gf_ops.proofs.IdLemmas.{id_cmp_total}
-use Rattle.gf_groups.proofs.groups.sort.Goals as goal
+use Rattle.gf_groups.proofs.groups.sort_groups.Goals as goal
 
 pub returns-clause-sorted : goal.returns-clause-sorted
 returns-clause-sorted c = c.in_ok-sort_by.ensures.sorted (λ g k. is_lt (group_cmp g k))
