@@ -17,21 +17,12 @@ import time
 
 ROOT = pathlib.Path(__file__).resolve().parent.parent
 sys.path.insert(0, str(ROOT / 'page' / 'tests'))
-from client import ANSWERS, Client  # noqa: E402
+from client import ANSWERS, Client, moved  # noqa: E402
 from helpers import FIGGROUP  # noqa: E402
 from histories import prepared  # noqa: E402
 
 PAUSE = .5  # seconds between the gestures of a client
 FIGURES, OPERATIONS = (10, 100, 1000), (1000, 10000, 79840)  # a site has room for 20 gestures
-
-
-def moved(text, nth):
-    """The text with its n-th box moved by five units."""
-    lines = text.split('\n')
-    boxes = [i for i, line in enumerate(lines) if line.startswith('2 2 ')]
-    number = boxes[nth % len(boxes)] + 1
-    lines[number] = '\t ' + ' '.join(str(int(word) + 5) for word in lines[number].split())
-    return '\n'.join(lines)
 
 
 def knows(text):

@@ -4,7 +4,7 @@ import contextlib
 import json
 import time
 
-import program
+from program import Keeper
 from sitefile import Behind, Refusal, SiteFile
 
 SITES = range(1, 9)
@@ -27,12 +27,10 @@ class Drawing:
         self.pages = set()
         self.changed = asyncio.Event()
         self.told = None
-        self.drawn = 0, None  # the last text of a take, and how many bytes all lines have with which it is the newest
+        self.keeper, self.keeping = Keeper(self.files.values()), asyncio.Lock()
+        self.appends = set()  # of what is kept and not yet on the disk
         for file in self.files.values():
             file.open()
-
-    def lines(self):
-        return b''.join(file.lines for file in self.files.values())
 
     # ---- Who draws
 
@@ -85,36 +83,48 @@ class Drawing:
                 file.check_end(held)
                 yield file, held
 
-    async def make(self, page, request, after, change):
-        """Adds to the file of a site what `change` makes of all lines. A request that comes again, as its answer was
-        lost, makes nothing, and gets its answer."""
+    async def make(self, page, request, after, change, *words):
+        """Adds to the file of a site what `change` makes. A request that comes again, as its answer was lost, makes nothing,
+        and gets its answer."""
         async with self.held(page.site) as (file, held):
             known = file.made_by(*request)
             if known:
                 new, last = known
-                return {'taken': last, 'made': new.decode(), 'said': ''}
+                return {'taken': last, 'made': new.decode()}
             if not self.draws(page):
                 raise Watching
             if after != file.last:
                 raise Behind(file.last)
-            lines = self.lines()
-            new, said, text = await change(page.site, lines, file.last)
+            async with self.keeping:
+                new = await change(page.site, *words)
+                if new:
+                    append = asyncio.create_task(asyncio.to_thread(file.append, held, new, *request))
+                    self.appends.add(append)
             if new:
-                await asyncio.to_thread(file.append, held, new, *request)
-                self.drawn = len(lines) + len(new), text
-                self.changed.set()
-            return {'taken': file.last, 'made': new.decode(), 'said': said}
+                await self.appended(append)
+            return {'taken': file.last, 'made': new.decode()}
+
+    async def appended(self, append):
+        """Waits until lines are on the disk. Where they do not come there, they are not kept either."""
+        try:
+            await append
+        except OSError:
+            self.keeper.end()
+            raise
+        finally:
+            self.appends.remove(append)
+            self.changed.set()
 
     async def take(self, page, request, after, text):
         """Makes of the drawing that of a text."""
         text = text.encode()
         if not text.startswith(b'#FIG'):  # what stands before it would be read as operations
             raise Refusal('the drawing has to begin with #FIG')
-        return await self.make(page, request, after, lambda site, lines, last: program.take(site, lines, text, last))
+        return await self.make(page, request, after, self.keeper.take, text, after)
 
     async def show(self, page, request, after, name, shown):
         """Shows or hides an object of which nothing is seen."""
-        return await self.make(page, request, after, lambda site, lines, _: program.show(site, lines, name, shown))
+        return await self.make(page, request, after, self.keeper.show, name, shown)
 
     # ---- What pages are told
 
@@ -129,16 +139,20 @@ class Drawing:
                 self.changed.set()
 
     async def publish(self):
-        """Tells all pages the drawing, whenever it changed. What changes meanwhile is told together."""
+        """Tells all pages the drawing, whenever it changed and is on the disk. What changes meanwhile is told together."""
         while True:
             await self.changed.wait()
             self.changed.clear()
-            lines, (length, text) = self.lines(), self.drawn
             try:
-                text, status = await program.named(lines, text if length == len(lines) else None)
+                async with self.keeping:
+                    text, status = await self.keeper.drawing()
+                    appends = list(self.appends)
+                await asyncio.gather(*appends)
                 self.told = {'drawing': text, 'status': status, **self.fault()}
             except Refusal as refusal:
                 self.told = {'fault': str(refusal)}
+            except OSError:
+                continue  # it is kept no more, and what is then told
             self.tell(self.told)
 
     def fault(self):

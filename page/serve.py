@@ -3,8 +3,8 @@
 
     serve.py FOLDER 1=Ann 2=Ben       tells an address for each: who has it draws as that site
 
-A page gets the text of `figgroup fig --named` and sends it back changed; `figgroup take` makes operations of that, and
-they are added to the file of the site. A page and the server exchange JSON over one web socket:
+A page gets the text of `figgroup fig --named` and sends it back changed. `figgroup serve` has all operations, and makes new
+ones of that, which are added to the file of the site. A page and the server exchange JSON over one web socket:
 
     page    {"page": ID, "turn": T, "draws": D}   it comes, or comes again; T is null where it was opened just now
             {"draw": true}                 it wants to draw in place of another page of its site
@@ -14,7 +14,7 @@ they are added to the file of the site. A page and the server exchange JSON over
     server  {"you": SITE}
             {"draws": BOOL, "turn": T, "last": L}    whether this page is the one of its site that draws
         to each request one answer, with its "request":
-            {"taken": L, "made": LINES, "said": WORDS}    what was sent is on the disk
+            {"taken": L, "made": LINES}    what was sent is on the disk
             {"refused": WORDS}             nothing was made of it, and why
             {"behind": L}                  nothing was made of it, as the site has operations that the page did not know
             {"watching": WORDS}            nothing was made of it, as another page of the site draws
@@ -45,12 +45,12 @@ except ImportError:
     sys.exit('draw: there is no python3-tornado here: apt-get install python3-tornado')
 
 from drawing import Drawing, SITES, Watching
+from program import MOST_BYTES
 from sitefile import Behind, Refusal, write_whole
 
 WEB = pathlib.Path(__file__).resolve().parent / 'web'
 TYPES = {'.html': 'text/html', '.css': 'text/css', '.js': 'text/javascript'}
 FILES = {file.name: TYPES[file.suffix] for file in WEB.iterdir() if file.suffix in TYPES}
-MOST_BYTES = 16 * 1024 * 1024  # of a message; figgroup reads as much
 MOST_PAGES = 64
 MOST_MESSAGES = 100  # at once from one page,
 PACE = 25  # and in a second

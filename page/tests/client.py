@@ -18,6 +18,15 @@ def drawing(*boxes, knows='nothing'):
     return EMPTY.replace('nothing', knows) + '0 32 #ff0000\n' + ''.join(boxes)
 
 
+def moved(text, nth):
+    """The text with its n-th box moved by five units."""
+    lines = text.split('\n')
+    boxes = [i for i, line in enumerate(lines) if line.startswith('2 2 ')]
+    number = boxes[nth % len(boxes)] + 1
+    lines[number] = '\t ' + ' '.join(str(int(word) + 5) for word in lines[number].split())
+    return '\n'.join(lines)
+
+
 def origin(address):
     return address[:address.index('/', 8)]
 

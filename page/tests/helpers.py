@@ -77,6 +77,10 @@ class Server:
             self.process.stdout.close()
         self.process = None
 
+    def keeper(self):
+        """The number of its newest process of figgroup."""
+        return int(wait(lambda: subprocess.run(['pgrep', '-nP', str(self.process.pid)], capture_output=True).stdout))
+
     def end(self):
         self.kill()
         shutil.rmtree(self.folder)

@@ -22,19 +22,19 @@ def operation(i, figures, have):
     return {**made, 'op': 'set', 'object': [j % 8 + 1, j // 8 + 1], **change}
 
 
-def write(folder, figures, count):
-    """Writes so many operations of so many figures into the files of a folder."""
-    have, lines = [0] * 8, {site: [] for site in range(1, 9)}
+def lines_of(figures, count):
+    """The lines of each site, of so many operations of so many figures."""
+    have, lines = [0] * 8, [[] for _ in range(8)]
     for i in range(count):
-        lines[i % 8 + 1].append(json.dumps(operation(i, figures, have), separators=(',', ':'), sort_keys=True) + '\n')
+        lines[i % 8].append(json.dumps(operation(i, figures, have), separators=(',', ':'), sort_keys=True) + '\n')
         have[i % 8] += 1
-    for site, made in lines.items():
-        (folder / f'site-{site}.jsonl').write_text(''.join(made))
+    return [''.join(made).encode() for made in lines]
 
 
 def prepared(figures, count):
-    """A server of eight sites over such a history."""
+    """A server of eight sites over these."""
     server = Server(8, start=False)
-    write(server.folder, figures, count)
+    for site, lines in enumerate(lines_of(figures, count), 1):
+        (server.folder / f'site-{site}.jsonl').write_bytes(lines)
     server.start()
     return server

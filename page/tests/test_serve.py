@@ -5,6 +5,7 @@ import fcntl
 import json
 import os
 import pathlib
+import signal
 import subprocess
 import unittest
 import urllib.error
@@ -71,9 +72,9 @@ class Requests(ServeTest):
         line = json.dumps({'colour': 'ff0000', 'id': [2, 1], 'kind': 'box', 'layer': 0, 'op': 'create', 'past': [0] * 8,
                            'place': [0, 0], 'shown': True, 'size': [3, 4]})
         for text, words in [(line + '\n' + drawing(box(0)), 'has to begin with #FIG'), ('', '#FIG'), (' #FIG', '#FIG'),
-                            (drawing(box(2000000)), 'figgroup: drawing line 12: '),
-                            (drawing().replace('# figgroup knows nothing\n', ''), 'figgroup: drawing without names'),
-                            (drawing(knows='3.1'), 'figgroup: operation 3.1 is in the drawing')]:
+                            (drawing(box(2000000)), 'drawing line 12: '),
+                            (drawing().replace('# figgroup knows nothing\n', ''), 'drawing without names'),
+                            (drawing(knows='3.1'), 'operation 3.1 is in the drawing')]:
             self.assertIn(words, (await client.take(text)).get('refused', ''))
         self.assertIn('NoObject', (await client.ask({'show': '1.1', 'to': True, 'after': 0}))['refused'])
         self.assertEqual([], self.server.operations())
@@ -197,20 +198,103 @@ class Strangers(ServeTest):
         second = subprocess.run([PAGE / 'serve.py', self.server.folder, '1=Ann', '--port', '1'], capture_output=True, text=True)
         self.assertEqual((1, 'draw: another server is at work in this folder\n'), (second.returncode, second.stderr))
 
-    def test_bounds_of_figgroup(self):
-        """The limits of memory and time are there before the first byte is read."""
-        code = ('import asyncio, program; program.FIGGROUP = "/bin/sh"\n'
-                'wrote, _ = asyncio.run(program.run("-s", read=b"sleep 0.2; ulimit -v; ulimit -t"))\nprint(wrote.decode())')
-        said = subprocess.run(['/usr/bin/python3', '-c', code], cwd=PAGE, capture_output=True, text=True)
-        self.assertEqual('4194304\n30\n\n', said.stdout, said.stderr)
 
-    def test_time_of_figgroup(self):
-        """A run that gives no answer is ended."""
-        code = ('import asyncio, program; program.FIGGROUP = "/bin/sh"\n'
-                'try: asyncio.run(program.run_within(0.3, ["-s"], b"exec sleep 60"))\n'
+class Keeping(ServeTest):
+    """The process that keeps the operations."""
+
+    async def draws(self, client, count):
+        """So many boxes, of which the last one is new."""
+        said = await client.take(drawing(*(box(500 * i) for i in range(count))), after=count - 1)
+        self.assertEqual(count, said.get('taken'), said)
+
+    def made(self, count):
+        self.assertEqual(list(range(1, count + 1)), [operation['id'][1] for operation in self.server.operations(1)])
+        self.assertEqual(count, self.server.figgroup('fig').count('\n2 2 '))
+
+    async def test_killed_between_gestures(self):
+        client = await self.client()
+        for count in range(1, 5):
+            await self.draws(client, count)
+            os.kill(self.server.keeper(), signal.SIGKILL)
+        self.made(4)
+
+    async def test_killed_within_a_gesture(self):
+        client = await self.client()
+        await self.draws(client, 1)
+        for count in range(2, 5):
+            keeper = self.server.keeper()
+            os.kill(keeper, signal.SIGSTOP)
+            asked = asyncio.create_task(self.draws(client, count))
+            done, _ = await asyncio.wait([asked], timeout=.3)
+            self.assertFalse(done)
+            os.kill(keeper, signal.SIGKILL)
+            await asked
+        self.made(4)
+
+    async def test_killed_while_eight_draw(self):
+        """What is refused as the process ended twice is drawn again."""
+        clients = [await self.client(site) for site in range(1, 9)]
+
+        async def draw(site, client):
+            for i in range(8):
+                text, said = drawing(*(box(1000 * j, 1000 * site) for j in range(i + 1))), {}
+                while 'taken' not in said:
+                    said = await client.take(text, after=i)
+                    self.assertTrue(said.get('taken') == i + 1 or 'figgroup ended' in said.get('refused', ''), said)
+
+        drawn = asyncio.gather(*(draw(site + 1, client) for site, client in enumerate(clients)))
+        while not drawn.done():
+            os.kill(self.server.keeper(), signal.SIGKILL)
+            await asyncio.wait([drawn], timeout=.2)
+        await drawn
+        for client in clients:
+            while '# figgroup knows 1.8 2.8 3.8 4.8 5.8 6.8 7.8 8.8' not in (client.text or ''):
+                await client.hear('drawing')
+        self.assertEqual(64, len(self.server.operations()))
+        self.assertEqual(64, self.server.figgroup('fig').count('\n2 2 '))
+
+    async def test_what_could_not_be_added(self):
+        """It is not kept, and told to nobody: what is drawn next is made without it."""
+        client, other = await self.client(), await self.client(2)
+        await self.draws(client, 1)
+        part = self.server.folder / 'drawing.part-drawing.redo-1'
+        part.mkdir()
+        self.assertIn('again', await client.take(drawing(box(0), box(900)), after=1))
+        part.rmdir()
+        await self.draws(client, 2)
+        while '# figgroup knows 1.2' not in (other.text or ''):
+            self.assertNotIn(' 900 ', (await other.hear('drawing'))['drawing'])
+        self.made(2)
+
+    async def test_a_line_at_fault(self):
+        """One that another program adds is told by its number among all lines."""
+        client = await self.client()
+        await self.draws(client, 1)
+        line = (self.server.folder / 'site-1.jsonl').read_text().replace('"id":[1,1]', '"id":[2,1]')
+        with open(self.server.folder / 'site-2.jsonl', 'w', buffering=1) as file:
+            file.write(line)
+            while '# figgroup knows 1.1 2.1' not in (client.text or ''):
+                await client.hear('drawing')
+            file.write('{}\n')
+            self.assertEqual('line 3: Field', (await client.hear('fault'))['fault'])
+        self.assertEqual('line 3: Field', (await client.take(drawing(box(0), box(500)), after=1))['refused'])
+
+    async def test_bound_of_memory(self):
+        limits = pathlib.Path(f'/proc/{self.server.keeper()}/limits').read_text()
+        self.assertEqual(['4294967296'] * 2, limits.partition('Max address space')[2].split()[:2])
+
+    def test_no_answer(self):
+        """A program that gives no answer is ended, and one that can't serve is told."""
+        code = ('import asyncio, program, sys\n'
+                'program.FIGGROUP, program.SECONDS = sys.argv[1], .3\n'
+                'try: asyncio.run(program.Keeper([]).drawing())\n'
                 'except program.Refusal as refusal: print(refusal)')
-        said = subprocess.run(['/usr/bin/python3', '-c', code], cwd=PAGE, capture_output=True, text=True, timeout=30)
-        self.assertEqual('figgroup -s gave no answer within 0.3 seconds\n', said.stdout, said.stderr)
+        slow = self.server.folder / 'slow'
+        slow.write_text('#!/bin/sh\nexec sleep 60\n')
+        slow.chmod(0o700)
+        for program, words in [(slow, 'gave no answer within 0.3 seconds'), ('true', 'ended without an answer')]:
+            said = subprocess.run(['/usr/bin/python3', '-c', code, program], cwd=PAGE, capture_output=True, text=True, timeout=30)
+            self.assertEqual(f'figgroup {words}\n', said.stdout, said.stderr)
 
 
 class Disk(ServeTest):

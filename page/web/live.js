@@ -25,7 +25,7 @@ export class Live extends EventTarget {
     designers = [];
     status = '';
     faults = new Map();   // of a refused drawing: what is wrong with which figure
-    words = '';           // what the server said last
+    words = '';           // why the server refused
     reason = '';          // why it ended the connection
     fault = '';           // why there is no newer drawing
     last = 0;             // the last operation of the site that this page knows
@@ -251,12 +251,12 @@ export class Live extends EventTarget {
 
     // ---- Answers
 
-    #answered({taken, made, said}) {
+    #answered({taken, made}) {
         if (!this.#sent) return;
         const {figures, show} = this.#sent;
         this.#sent = null;
         this.last = taken;
-        this.words = said || this.words;
+        this.words = '';
         if (show) this.#stale = made !== '';
         if (!figures) return;
         this.#acked = figures;
@@ -299,7 +299,7 @@ export class Live extends EventTarget {
         if (!figures) return;
         const {begins} = write(figures, this.#base.knows);
         for (const line of words.split('\n')) {
-            const [, number, text] = line.match(/^figgroup: drawing line (\d+): (?:figure object \d+: )?(.*)/) ?? [];
+            const [, number, text] = line.match(/^drawing line (\d+): (?:figure object \d+: )?(.*)/) ?? [];
             const begun = [...begins].filter(([begin]) => begin <= number);
             if (begun.length) this.faults.set(begun.at(-1)[1], text);
         }
