@@ -333,4 +333,5 @@ def main():
     print(f"{takes} takes of random drawings, {made} operations", file=sys.stderr)
 
 
-main()
+if __name__ == "__main__":
+    main()

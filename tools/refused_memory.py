@@ -3,7 +3,8 @@
 
 A refused call has to answer want of memory, leave what was there, and answer rightly when it is called again: test_memory
 tells by one line whether it did. A refused command has to end with status 1, want of memory for an answer, and no output but the
-header and whole bands of a picture. Where the program does without what was refused, the answer has to be the expected one:
+header and whole bands of a picture. A server may refuse the request for want of memory, and then goes on as if it had not been
+asked. Where the program does without what was refused, the answer has to be the expected one:
 of calls, only those may do so of which test_memory says it. The threads of a command are refused likewise: it has to start as
 many as are told here, and only a session may be refused for want of one."""
 
@@ -108,6 +109,52 @@ class Command:
         return "out of memory" if refused and run.returncode == 1 and answers_so and self.is_front(run.stdout) else None
 
 
+class Server:
+    """A server that is asked. A request that is refused for want of memory leaves all as it was."""
+
+    what, between, threads = "ALLOCATION", False, None
+
+    def __init__(self, program, requests):
+        self.name, self.words, self.given = "figgroup serve", [program, "serve"], b"".join(requests)
+        self.expected = self.answers(self.given)
+        self.without = [self.answers(b"".join(requests[:n] + requests[n + 1 :])) for n in range(len(requests))]
+        if len(self.expected) != len(requests):
+            sys.exit(f"{self.name}: {len(self.expected)} answers to {len(requests)} requests, with nothing refused")
+
+    def answers(self, given):
+        return whole_answers(subprocess.run(self.words, input=given, capture_output=True, check=True).stdout)
+
+    def came(self, run, refused):
+        """What came of a run, or none where it must not come."""
+        answers = whole_answers(run.stdout)
+        if run.returncode == 0 and answers == self.expected:
+            return "as expected"
+        if not refused or answers is None:
+            return None
+        if run.returncode == 1 and answers == self.expected[: len(answers)]:
+            return "ended"
+        place = answers.index(OUT_OF_MEMORY) if OUT_OF_MEMORY in answers else 0
+        left_out = answers[:place] + answers[place + 1 :]
+        is_right = run.returncode == 0 and answers[place : place + 1] == [OUT_OF_MEMORY] and left_out == self.without[place]
+        return "out of memory" if is_right else None
+
+
+OUT_OF_MEMORY = b'{"bytes":13,"refused":true}\nout of memory'
+
+
+def whole_answers(wrote):
+    """The answers of a server, or none where one is cut off."""
+    answers = []
+    while wrote:
+        line, end, _ = wrote.partition(b"\n")
+        length = len(line) + 1 + json.loads(line)["bytes"] if end else len(wrote) + 1
+        if length > len(wrote):
+            return None
+        answers.append(wrote[:length])
+        wrote = wrote[length:]
+    return answers
+
+
 def refusal_of(command, what):
     """The line that tells want of memory, or none where a command does without what is refused."""
     if what == "THREAD":
@@ -196,6 +243,31 @@ def commands(program):
         Command(program, session, script),
         Command(program, session, script, threads=2),
         *threaded(program),
+        Server(program, requests()),
+    ]
+
+
+def request(body=b"", **keys):
+    """A request to a server."""
+    return json.dumps({**keys, "bytes": len(body)} if body else keys).encode() + b"\n" + body
+
+
+def requests():
+    """Requests of each kind, some of which are refused anyway."""
+    box, mistakes = input_of("xfig/box", "site-*.jsonl"), input_of("mistakes")
+    changed = (EXAMPLES / "xfig" / "box" / "name-deleted-and-moved.fig").read_bytes()
+    return [
+        request(do="named"),
+        request(box, do="lines"),
+        request(do="named"),
+        request(changed, do="take", site=3, named=True),
+        request(changed.replace(b" 20 ", b" 10 "), do="take", site=3),
+        request(mistakes, do="lines"),
+        request(do="status"),
+        request(box, do="lines"),
+        request(changed, do="take", site=4, after=0),
+        request(do="status", json=True),
+        request(do="fig"),
     ]
 
 
