@@ -118,7 +118,7 @@ class Commands:
         self.keep(wrote.partition(b"#FIG")[0])
         counts = {"changed": 0, "drawn": 0, "hidden": 0}
         counts.update((word, int(count)) for count, word in re.findall(r"(\d+) (changed|drawn|hidden)", said))
-        made = re.search(r"^made ([\d.]+)(?: to ([\d.]+))?:", said, re.M)
+        made = re.search(r"^made ([\d.]+)(?: to ([\d.]+))?(?::|$)", said, re.M)
         since = re.search(r"^([\d.]+)(?: to ([\d.]+))? (?:was|were) made since", said, re.M)
         told = {"made": ids_of(made), "since": ids_of(since), "thin": thin(said)}
         return spelled({"bytes": len(wrote), **counts, **told}) + wrote
