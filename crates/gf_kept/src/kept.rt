@@ -13,6 +13,7 @@ ghost use Rattle.gf_versions.specs.Ranking.{AreRanked};
 ghost use Rattle.gf_visible.specs.ShownVersions.{HasMoreOn, HasMoreVisible};
 ghost use Rattle.gf_kept.specs.Gathered.{IsItemListing};
 ghost use Rattle.gf_kept.specs.Keeping.{ArePlacedOn, Keeps, kept_of};
+ghost use Rattle.gf_kept.specs.SameOn.{HaveSameBut};
 
 use crate::found::FoundVersions;
 use gf_base::OutOfMemory;
@@ -58,6 +59,17 @@ impl KeptVersions {
             → Keeps h self.old → Keeps (h ++ a ∷ []) self.new }
     {
         remove(&mut self.objects, object);
+    }
+
+    /// Forgets what is kept of these objects. The rest is that of another history, which differs on
+    /// these objects alone.
+    pub fn forget_all(&mut self, objects: &[ObjectId])
+        ensures { (h k : List Op) → IsValid h → IsValid k → HaveSameBut objects.now h k
+            → Keeps h self.old → Keeps k self.new }
+    {
+        for object in objects {
+            remove(&mut self.objects, *object);
+        }
     }
 
     /// The visible versions of a history, topmost first, if they are at most `most`; None where
