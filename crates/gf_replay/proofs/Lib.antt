@@ -4,3 +4,4 @@ pub mod ReadingLemmas
 pub mod SameLemmas
 pub mod RefusalLemmas
 pub mod BlockLemmas
+pub mod GrowthLemmas

@@ -8,6 +8,7 @@ use Rattle.gf_json.specs.declared.line_error.LineError.TheVariants as fault
 use Rattle.gf_site.specs.ReplicaState.{ReplicaState}
 use Rattle.gf_replay.specs.declared.blocks.Reading.{Reading}
 use Rattle.gf_replay.specs.declared.reading_error.ReadingError.{ReadingError}
+use Rattle.gf_replay.specs.Behind.{Grows}
 use Rattle.gf_replay.specs.LineSteps.{HasRead}
 use Rattle.gf_replay.specs.Refusing.{RefusesText}
 
@@ -55,3 +56,4 @@ pub record TakesBlock (readings : List Reading) (x : ReplicaState)
       → IsBefore known text readings others x → IfOk result (HasRead known text others)
   pub err : (known : List Op) (text : List ℕ) (others : List (ℕ × List ℕ))
       → IsBefore known text readings others x → IfErr result (RefusesText known text)
+  pub grows : IfOk result (λ y. Grows x.ops y.ops)

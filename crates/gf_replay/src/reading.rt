@@ -6,7 +6,7 @@ ghost use Rattle.gf_ops.specs.declared.op.Op.{Op};
 ghost use Rattle.gf_ops.specs.Limits.{IsInRange};
 ghost use Rattle.gf_replay.specs.Blocks.{AreOfLines, IsBefore, IsBlock, IsReading, TakesBlock};
 ghost use Rattle.gf_replay.specs.Denoting.{Denotes};
-ghost use Rattle.gf_replay.specs.Behind.{DeliversLines, HasDelivered};
+ghost use Rattle.gf_replay.specs.Behind.{DeliversLines, Grows, HasDelivered};
 ghost use Rattle.gf_replay.specs.Refusing.{RefusesText};
 ghost use Rattle.gf_replay.specs.Waiting.{DenotesWaiting};
 ghost use Rattle.gf_replay.specs.LineSteps.{HasRead};
@@ -53,6 +53,7 @@ pub fn read_behind<R: Threads + Sync>(
     requires { (1 ≤ workers) × (workers ≤ 16) }
     ensures ok { (known : List Op) → HasDelivered known replica
         → IfOk result (DeliversLines known text.items) }
+    ensures grows { IfOk result (λ next. Grows replica.ops next.ops) }
     ensures err { (known : List Op) → HasDelivered known replica
         → IfErr result (RefusesText known text.items) }
 {
@@ -82,6 +83,7 @@ fn take_and_read<R: Threads + Sync>(
     ensures ok { (known : List Op) (text : List ℕ)
         → IsBefore known text block.readings.items block.behind replica
         → IfOk result (λ next. HasRead known text block.behind next.0) }
+    ensures grows { IfOk result (λ next. Grows replica.ops next.0.ops) }
     ensures block { IfOk result (λ next.
         IsBlock block.behind next.1.readings.items next.1.behind) }
     ensures err { (known : List Op) (text : List ℕ)
@@ -141,6 +143,7 @@ fn take_reading(replica: &mut Replica, reading: Reading) -> Result<(), ReadingEr
         → (known : List Op) (text : List ℕ) (left : List (ℕ × List ℕ))
         → HasRead known text (line ∷ left) replica.old
         → OnOk result (HasRead known text left replica.new) }
+    ensures grows { OnOk result (Grows replica.old.ops replica.new.ops) }
     ensures err { (line : ℕ × List ℕ) → IsReading line reading
         → (known : List Op) (text : List ℕ) (left : List (ℕ × List ℕ))
         → HasRead known text (line ∷ left) replica.old

@@ -2,6 +2,7 @@
 
 ghost use Rattle.std.specs.Prelude.{◌≡◌, IfErr, OnOk};
 ghost use Rattle.gf_ops.specs.Limits.{IsInRange};
+ghost use Rattle.gf_replay.specs.Behind.{Grows};
 ghost use Rattle.gf_replay.specs.LineSteps.{RefusesStepping};
 ghost use Rattle.gf_replay.specs.Taking.{RefusesOp, StepsAll, TakesOp, of_line};
 
@@ -17,6 +18,7 @@ use gf_site::{Replica, Step};
 pub fn take_op(replica: &mut Replica, number: u64, op: Op) -> Result<(), ReadingError>
     requires { IsInRange op }
     ensures ok { OnOk result (TakesOp op replica.old replica.new) }
+    ensures grows { OnOk result (Grows replica.old.ops replica.new.ops) }
     ensures err { IfErr result (RefusesOp number op replica.old) }
 {
     match replica.receive(op) {
@@ -42,6 +44,7 @@ pub fn line_refusal(number: u64, fault: LineError) -> ReadingError
 /// Steps until nothing is ready.
 fn step_all(replica: &mut Replica) -> Result<(), ReadingError>
     ensures ok { OnOk result (StepsAll replica.old replica.new) }
+    ensures grows { OnOk result (Grows replica.old.ops replica.new.ops) }
     ensures err { IfErr result (RefusesStepping replica.old) }
 {
     loop {

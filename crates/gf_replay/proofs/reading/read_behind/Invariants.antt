@@ -1,6 +1,6 @@
 use Rattle.std.proofs.Common.{◌≡◌, ◌+◌, [], List, length}
 use Rattle.gf_ops.specs.declared.op.Op.{Op}
-use Rattle.gf_replay.specs.Behind.{HasDelivered}
+use Rattle.gf_replay.specs.Behind.{Grows, HasDelivered}
 use Rattle.gf_replay.specs.Blocks.{AreOfLines, IsBefore}
 use Rattle.gf_replay.proofs.reading.read_behind.Given as goal
 
@@ -9,6 +9,7 @@ invariant-loop-alloc g l = record {
   before : (known : List Op) → HasDelivered known l.fn.replica
       → IsBefore known l.fn.text.items l.block.readings.items l.block.behind l.replica;
   lines : AreOfLines l.block.readings.items;
+  grows : Grows l.fn.replica.ops l.replica.ops;
   none : length l.block.readings.items ≡ 0 → l.block.behind ≡ [];
 }
 

@@ -2,6 +2,7 @@ use Rattle.std.proofs.Common.{◌≡◌, length, rules, subst, sym}
 use Rattle.std.specs.Vec.Iter.{into_iter_items}
 use Rattle.std.proofs.lemmas.Result.{err_from_is_err_and}
 use Rattle.gf_replay.specs.Refusing.{RefusesText}
+use Rattle.gf_replay.proofs.GrowthLemmas.{grows_on}
 use Rattle.gf_replay.proofs.ReadingLemmas.{AreOfLines-rest, HasRead-block, IsBefore-line}
 use Rattle.gf_replay.proofs.ReadingLemmas.{RefusesText-first}
 use Rattle.gf_replay.proofs.reading.take_block.Goals as goal
@@ -15,6 +16,8 @@ loop-reading-preserved c =
           IsBefore-line known text c.in-Some.reading _ others c.loop-reading.replica
           (rw steps at c.loop-reading.invariant.before known text others whole)
           c.take_reading.new.replica c.in_ok-take_reading.ensures.ok;
+      grows = grows_on c.args.replica.ops c.loop-reading.replica.ops c.take_reading.new.replica.ops
+          c.loop-reading.invariant.grows c.in_ok-take_reading.ensures.grows;
     }
 
 pub returns-in_err-take_reading : goal.returns-in_err-take_reading
@@ -28,6 +31,7 @@ returns-in_err-take_reading c =
           (rw steps at c.loop-reading.invariant.before known text others whole) _
           (λ line reads all bytes left read. subst (RefusesText all bytes) (sym p.2)
           (c.in_err-take_reading.ensures.err line reads all bytes left read));
+      grows = tt;
     })
 
 pub returns : goal.returns
@@ -37,4 +41,5 @@ returns c = record {
       HasRead-block known text _ others c.loop-reading.replica none
       (c.loop-reading.invariant.before known text others whole);
   err = λ known text others whole. tt;
+  grows = c.loop-reading.invariant.grows;
 }
