@@ -13,6 +13,21 @@ pub struct Made {
     pub last: OpId,
 }
 
+impl Made {
+    /// What is told of the operations that were made, with one more behind them.
+    pub fn until(made: Option<Made>, last: OpId) -> Made
+        ensures { result ≡ made_until made last }
+    {
+        match made {
+            Some(made) => Made {
+                first: made.first,
+                last,
+            },
+            None => Made { first: last, last },
+        }
+    }
+}
+
 impl fmt::Display for Made {
     fn fmt<W: fmt::Write>(&self, f: &mut fmt::Formatter<W>) -> fmt::Result {
         if self.first == self.last {
@@ -20,18 +35,5 @@ impl fmt::Display for Made {
         } else {
             write!(f, "made {} to {}", self.first, self.last)
         }
-    }
-}
-
-/// What is told of the operations that were made, with one more behind them.
-pub(crate) fn until(made: Option<Made>, last: OpId) -> Made
-    ensures { result ≡ made_until made last }
-{
-    match made {
-        Some(made) => Made {
-            first: made.first,
-            last,
-        },
-        None => Made { first: last, last },
     }
 }

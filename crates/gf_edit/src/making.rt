@@ -12,7 +12,6 @@ ghost use Rattle.gf_edit.specs.MakingSteps.{HasPassed, Passes, RefusesCommand, R
 ghost use Rattle.gf_edit.specs.MakingSteps.{RefusesEach, WritesEach, WritesKeep, WritesOp};
 ghost use Rattle.gf_edit.specs.MakingSteps.{of_author, of_keep};
 
-use crate::made::until;
 use crate::{EditCommand, EditError, Made, Numbered};
 use gf_base::OutOfMemory;
 use gf_json::op_line;
@@ -121,7 +120,7 @@ fn author(
     match site.author(change) {
         Ok(op) => match push_line(alloc, &mut edited.text, &op) {
             Ok(()) => {
-                edited.value = Some(until(edited.value, op.id));
+                edited.value = Some(Made::until(edited.value, op.id));
                 Ok(())
             }
             Err(OutOfMemory) => Err(EditError::Run(StudioError::OutOfMemory)),
