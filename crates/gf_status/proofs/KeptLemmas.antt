@@ -14,11 +14,12 @@ use Rattle.std.proofs.lemmas.List.{get_or-drop, get_or-map, get_or-take, length-
 use Rattle.std.proofs.lemmas.List.{length-take, take-append-drop}
 use Rattle.std.proofs.lemmas.List.Elements.{Contains-append_cases, Contains-append_left}
 use Rattle.std.proofs.lemmas.List.Elements.{Contains-append_right, Contains-get_or}
+use Rattle.std.proofs.lemmas.List.Elements.{Contains-push_cases}
 use Rattle.std.proofs.lemmas.List.Kept.{AllPairs-cons}
 use Rattle.std.proofs.lemmas.List.Quantifiers.{all_pairs_remove}
 use Rattle.std.proofs.lemmas.Map.Keys.{sorted_from_all_adjacent}
 use Rattle.gf_base.proofs.ListLemmas.{Contains-cons_cases, Contains-cons_head, Contains-cons_tail}
-use Rattle.gf_base.proofs.ListLemmas.{Contains-map, Contains-map_from, not_Contains-nil}
+use Rattle.gf_base.proofs.ListLemmas.{Contains-map, Contains-map_from}
 use Rattle.gf_base.proofs.PairLemmas.{AllPairs-append}
 use Rattle.gf_ops.specs.declared.op.Op.{Op}
 use Rattle.gf_ops.specs.declared.op.OpId.{OpId}
@@ -264,29 +265,15 @@ told_found (s ∷ ss) o i found = subst (λ (p : ObjectId). Contains (told_ids (
     (Contains-map (λ (z : ObjectStatus). z.object.0) (s ∷ ss) (get_or (s ∷ ss) i s)
     (Contains-get_or (s ∷ ss) i s found.inside))
 
--- an operation makes no other object
-pub made_alone : (a : Op) (o : ObjectId) → IsMade (a ∷ []) o → a.id ≡ o.0
-made_alone a o w = elim (Contains-cons_cases a [] w.made.maker w.made.contained) [
-  | inl e ↦ ap (λ (b : Op). b.id) (sym e) ∙ w.made.id
-  | inr i ↦ absurd (not_Contains-nil w.made.maker i)
+-- one id more has a status
+pub told_more : (ids old new : List OpId) (i : OpId)
+    → ((o : ObjectId) → Contains ids o.0 → Contains old o.0)
+    → ((o : ObjectId) → Contains old o.0 → Contains new o.0) → Contains new i
+    → (o : ObjectId) → Contains (ids ++ i ∷ []) o.0 → Contains new o.0
+told_more ids old new i all stays has o there = elim (Contains-push_cases ids i o.0 there) [
+  | inl c ↦ stays o (all o c)
+  | inr e ↦ subst (Contains new) e has
 ]
-
-pub all_more : (ks : List Op) (a : Op) (old new : List OpId)
-    → ((o : ObjectId) → IsMade ks o → Contains old o.0)
-    → ((o : ObjectId) → Contains old o.0 → Contains new o.0)
-    → ((o : ObjectId) → IsMade (a ∷ []) o → Contains new o.0)
-    → (o : ObjectId) → IsMade (ks ++ a ∷ []) o → Contains new o.0
-all_more ks a old new all stays has o w = elim (Contains-append_cases ks (a ∷ []) w.made.maker
-    w.made.contained) [
-      | inl c ↦ stays o (all o (record {
-        kind = w.kind;
-        made = record { maker = w.made.maker; contained = c; id = w.made.id; kind = w.made.kind };
-      }))
-      | inr c ↦ has o (record {
-        kind = w.kind;
-        made = record { maker = w.made.maker; contained = c; id = w.made.id; kind = w.made.kind };
-      })
-    ]
 
 -- ---- all statuses
 

@@ -1,6 +1,7 @@
 //! The statuses of the objects of a history, kept while the history grows.
 
-ghost use Rattle.std.specs.Prelude.{◌≡◌, ◌∷◌, [], ◌++◌, List, AllPairs, Contains, IfErr, IfOk, OnOk};
+ghost use Rattle.std.specs.Prelude.{◌≡◌, ◌∷◌, [], ◌++◌, List, AllPairs, Contains, IfErr};
+ghost use Rattle.std.specs.Prelude.{IfOk, OnOk};
 ghost use Rattle.gf_ops.specs.declared.op.Op.{Op};
 ghost use Rattle.gf_ops.specs.declared.op.ObjectId.{ObjectId};
 ghost use Rattle.gf_ops.specs.Attribute.{object_of};
@@ -13,7 +14,8 @@ ghost use Rattle.gf_status.specs.StatusPlaces.{IsFoundAt, IsMissingAt};
 use crate::objects::{ObjectStatus, object_status};
 use gf_base::OutOfMemory;
 use gf_listing::Versions;
-use gf_ops::{Change, ObjectId, Op};
+use gf_names::objects;
+use gf_ops::ObjectId;
 use std::alloc::Global;
 use std::marker::Model;
 
@@ -59,38 +61,18 @@ impl KeptStatuses {
         }
     }
 
-    /// Makes the statuses of all objects of a history of which none is kept.
+    /// Makes the statuses of all objects of a history of which none is kept. The objects come
+    /// rising by id, so the first statuses are appended.
     pub fn refresh(&mut self, alloc: Global, versions: &Versions<'_>) -> Result<(), OutOfMemory>
         requires { AreKept versions.now self.old }
         ensures keeps { AreKept versions.now self.new }
         ensures statuses { OnOk result (AreStatuses versions.now self.new) }
     {
-        for op in versions.ops() {
-            self.add_made(alloc, versions, op)?;
+        let ids = objects(alloc, versions.history())?;
+        for id in ids.as_slice() {
+            self.add(alloc, versions, ObjectId(*id))?;
         }
         Ok(())
-    }
-
-    /// Makes the status of the object that an operation of the history made, if it made one, unless
-    /// it is kept.
-    fn add_made(
-        &mut self,
-        alloc: Global,
-        versions: &Versions<'_>,
-        op: &Op,
-    ) -> Result<(), OutOfMemory>
-        requires contained { Contains versions.now op.now }
-        requires keeps { AreKept versions.now self.old }
-        ensures keeps { AreKept versions.now self.new }
-        ensures has { OnOk result ((o : ObjectId) → IsMade (op.now ∷ []) o
-            → Contains (told_ids self.new) o.0) }
-        ensures stays { (o : ObjectId) → Contains (told_ids self.old) o.0
-            → Contains (told_ids self.new) o.0 }
-    {
-        match &op.change {
-            Change::Create(_) => self.add(alloc, versions, ObjectId(op.id)),
-            Change::Set { .. } => Ok(()),
-        }
     }
 
     /// Makes the status of an object, unless it is kept.
