@@ -1,9 +1,10 @@
 -- How far the operations reach that a site saw, and that exactly those up to there are known.
-use Rattle.std.proofs.Common.{◌≡◌, ℕ, zero, suc, ◌+◌, ◌≤◌, ◌<◌, true, false, List, []}
+use Rattle.std.proofs.Common.{◌≡◌, ◌≢◌, ℕ, zero, suc, ◌+◌, ◌≤◌, ◌<◌, true, false, List, []}
 use Rattle.std.proofs.Common.{◌∷◌, ◌++◌, filter, length, take, get_or, refl, sym, ap, subst, ◌∙◌}
 use Rattle.std.proofs.Common.{inl, inr, arith}
 use Rattle.std.specs.Prelude.{◌⊎◌, Contains, max, nat_eq, nat_le}
-use Rattle.std.proofs.lemmas.Bool.{cases_Bool, cases_lt, eq-eqb, eqb-true, le-leb, leb-true}
+use Rattle.std.proofs.lemmas.Bool.{cases_Bool, cases_eq, cases_lt, eq-eqb, eqb-true, le-leb}
+use Rattle.std.proofs.lemmas.Bool.{leb-true}
 use Rattle.std.proofs.lemmas.Bool.{or_cases, or_left, or_right}
 use Rattle.std.proofs.lemmas.List.{take_more}
 use Rattle.std.proofs.lemmas.List.Elements.{Contains-append_left, Contains-get_or, Contains-push}
@@ -185,17 +186,28 @@ module _ (s : ℕ) (c : Clock) where
       accepted = kept_accepted h valid (is_counted reach) counted_closed run (λ x m. m);
     }
 
-    -- a history whose last operation of each site is reached is its own base
-    pub whole_base : AreAccepted h → ((t : ℕ) → IsSite t → count_of h t ≤ entry reach t)
-        → IsBase s c h h
-    whole_base run all = record {
-      exactly = λ a. (
-        λ m. let most = number_counted h valid a m in let l = all a.id.site (site_of a m) in
-            counted_known a m (le-leb a.id.seq (entry reach a.id.site) (omega arith)),
-        λ k. k.contained,
-      );
-      accepted = run;
-    }
+  -- a history is its own base where the clock counts all operations of each other site
+  pub whole_base : (h : List Op) → IsValid h → AreAccepted h
+      → ((t : ℕ) → IsSite t → t ≢ s → count_of h t ≤ entry c t) → IsBase s c h h
+  whole_base h valid run all = record {
+    exactly = λ a. (
+      λ m. record {
+        contained = m;
+        seen = a;
+        there = m;
+        is_seen = elim (cases_eq a.id.site s) [
+          | inl own ↦ inr own
+          | inr other ↦
+              let most = number_counted h valid a m in
+              let counted = all a.id.site (site_in_range a (valid.in_range a m)) other in
+              inl (omega (arith, most, counted))
+        ];
+        known = inl refl;
+      },
+      λ k. k.contained,
+    );
+    accepted = run;
+  }
 
 -- ---- one item of the history
 
