@@ -8,8 +8,9 @@ use Rattle.std.proofs.lemmas.List.Elements.{Contains-push_cases}
 use Rattle.gf_ops.specs.declared.op.Op.{Op}
 use Rattle.gf_ops.specs.declared.op.OpId.{OpId}
 use Rattle.gf_ops.specs.declared.op.Clock.{Clock}
-use Rattle.gf_ops.specs.OperationOrder.{IsSite, Precedes, entry}
+use Rattle.gf_ops.specs.OperationOrder.{IsSite, Precedes, count_of, entry}
 use Rattle.gf_ops.specs.ValidHistory.{IsValid}
+use Rattle.gf_ops.proofs.CountedLemmas.{number_counted}
 use Rattle.gf_ops.proofs.HistoryLemmas.{site_in_range}
 use Rattle.gf_take.specs.Reaching.{AreReached}
 use Rattle.gf_take.proofs.ReachLemmas.{counted_known, known_counted}
@@ -84,6 +85,15 @@ module _ (s : ℕ) (seen : Clock) (h : List Op) (valid : IsValid h) (known : Clo
     where
       below : entry a.past x.id.site ≤ entry known x.id.site → x.id.seq ≤ entry known x.id.site
       below w = let k = n.knows in omega (arith, k, w)
+
+-- where the drawing knew all operations of the site, none is newer
+pub none_newer : (s : ℕ) (seen : Clock) (h : List Op) → IsValid h → count_of h s ≤ entry seen s
+    → (a x : Op) → ¬ (IsNewer s seen h a x)
+none_newer s seen h valid all a x n =
+    let own : a.id.seq ≤ count_of h s = subst (λ t. a.id.seq ≤ count_of h t) n.own
+    (number_counted h valid a n.contained) in
+    let after = n.after in
+    absurd (omega (arith, own, all, after))
 
 -- one more operation that is not bad
 pub none_more : (Bad : Op → Type 0) (ops : List Op) (k : ℕ) (a : Op) → k < length ops

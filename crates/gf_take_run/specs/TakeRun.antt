@@ -106,7 +106,8 @@ pub record IsUnnamed (fig : List ℕ) : Type 0 where
   pub few : length drawing.figures ≤ MOST_VERSIONS
   pub silent : (c : Clock) → AreCounts c → ¬ (TellsKnown fig c)
 
--- the operations and the FIG text were read, and this holds of the history and what the drawing knew
+-- the operations and the FIG text were read, and this holds of the history and of what the drawing
+-- knew
 pub record ReadsBoth (s : ℕ) (known : List Op) (fig : List ℕ)
     (Such : List Op → Drawn → Clock → Type 0) : Type 0 where
   pub history : List Op
@@ -173,14 +174,16 @@ pub record HasNewer (s : ℕ) (i j : OpId) (h : List Op) (drawing : Drawn) (seen
   pub named : i ≡ op.id
   pub names : j ≡ known.id
 
--- why nothing is taken of this FIG text behind the known operations; want of memory may come with any
+-- why nothing is taken of this FIG text behind the known operations; want of memory may come with
+-- any
 abbrev pub RefusesFigText : TakeRequest → List Op → List ℕ → TakeRunError → Type 0
 RefusesFigText q known fig (refused.Run studio.OutOfMemory) = ⊤
 RefusesFigText q known fig (refused.Run e) = ⊥
 RefusesFigText q known fig (refused.Waits i j) = HasBlocking q.site known i j
 RefusesFigText q known fig (refused.Fig faults) = ReadsLines q.site known
     (λ h. HasFirst fig faults × AreFaults most_told None fig faults)
-RefusesFigText q known fig refused.TooManyFigures = ReadsLines q.site known (λ h. HasManyFigures fig)
+RefusesFigText q known fig refused.TooManyFigures =
+    ReadsLines q.site known (λ h. HasManyFigures fig)
     ⊎ ReadsBoth q.site known fig (HasBase q.site ShowsMany)
 RefusesFigText q known fig refused.Unnamed = ReadsLines q.site known (λ h. IsUnnamed fig)
 RefusesFigText q known fig (refused.Absent i) =

@@ -45,8 +45,8 @@ pub record TakesSo (q : TakeRequest) (h : List Op) (fig : List ℕ) (drawing : D
   pub since : t.value.since ≡ since_drawing q.site seen h
   pub thin : AreThinOf taken.base t.value.thin.items
 
--- the known operations, which deliver the history, and the FIG text were read, and the site takes of
--- them the new operations, which are written and told
+-- the known operations, which deliver the history, and the FIG text were read, and the site takes
+-- of them the new operations, which are written and told
 pub record TakesBehind (q : TakeRequest) (known history : List Op) (fig : List ℕ) (new : List Op)
     (t : Answer Taken) : Type 0 where
   pub read : AreRead q.site known history

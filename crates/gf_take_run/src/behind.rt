@@ -2,6 +2,8 @@
 
 ghost use Rattle.std.specs.Prelude.{◌≡◌, ◌++◌, Contains, IfErr, IfOk};
 ghost use Rattle.gf_fig_named.specs.NamedFigures.{AreNamed};
+ghost use Rattle.gf_kept.specs.Keeping.{Keeps};
+ghost use Rattle.gf_kept.specs.SameOn.{HaveSameBut};
 ghost use Rattle.gf_ops.specs.Accepted.{AreAccepted};
 ghost use Rattle.gf_ops.specs.Limits.{IsInRange};
 ghost use Rattle.gf_ops.specs.OperationOrder.{IsSite};
@@ -18,9 +20,10 @@ use crate::showing::listed;
 use gf_base::OutOfMemory;
 use gf_drawing::CompileFault;
 use gf_fig_named::named_bytes;
-use gf_kept::KeptSite;
+use gf_kept::{KeptSite, KeptVersions};
 use gf_ops::{History, ObjectId, Op};
 use gf_shape::AnyShape;
+use gf_site::Site;
 use gf_take::{base_site, is_whole_base};
 use gf_versions::Ranked;
 use std::alloc::Global;
@@ -36,7 +39,8 @@ pub(crate) struct MadeBehind {
 }
 
 /// What a site makes of a drawing behind what this knew. Where that is all that the site has, the
-/// site itself is the base, and what it shows at the end is what its text shows.
+/// site itself is the base, and what it shows at the end is what its text shows. Else what is kept
+/// goes to the base and back, but for the objects on which the two differ.
 pub(crate) fn make_behind(
     alloc: Global,
     taker: KeptSite,
@@ -58,9 +62,11 @@ pub(crate) fn make_behind(
         return Ok(shown_whole(alloc, made, request.named)?);
     }
     let base = base_site(alloc, request.site, taker.history(), &drawn.seen)?;
-    let base = KeptSite::of(alloc, base);
+    let apart = objects_apart(alloc, taker.history(), base.history())?;
+    let (whole, kept) = taker.into_parts();
+    let base = with_kept(whole.history(), kept, base, &apart);
     let made = make_from(alloc, base, fig, drawn, request.after)?;
-    let mut site = with_ops(alloc, taker, &made.ops)?;
+    let mut site = joined(alloc, whole, made.site, &made.ops, &apart)?;
     let text = text_of_site(alloc, &mut site, request.named)?;
     Ok(MadeBehind {
         ops: made.ops,
@@ -68,6 +74,58 @@ pub(crate) fn make_behind(
         thin: made.thin,
         text,
     })
+}
+
+/// The objects of the operations that a history has and its base has not.
+fn objects_apart(
+    alloc: Global,
+    history: &History,
+    base: &History,
+) -> Result<Vec<ObjectId>, OutOfMemory>
+    requires { (a : Op) → Contains base.now.ops a → Contains history.now.ops a }
+    ensures { IfOk result (λ objects. HaveSameBut objects.items history.now.ops base.now.ops) }
+{
+    history.recall_valid();
+    let mut objects = Vec::new(alloc);
+    for op in history.ops() {
+        match base.get(op.id) {
+            Some(_) => {}
+            None => objects.push(op.object())?,
+        }
+    }
+    Ok(objects)
+}
+
+/// A site with what is kept of a history that differs from its own on these objects alone.
+fn with_kept(history: &History, kept: KeptVersions, site: Site, apart: &[ObjectId]) -> KeptSite
+    requires keeps { Keeps history.now.ops kept }
+    requires same { HaveSameBut apart.now history.now.ops site.ops }
+    ensures { result ≡ site }
+{
+    let mut kept = kept;
+    history.recall_valid();
+    site.history().recall_valid();
+    kept.forget_all(apart);
+    KeptSite::new(site, kept)
+}
+
+/// The whole site with the operations that were made behind its base. What is kept of the base with
+/// these is kept of it, but for the objects on which the two differ.
+fn joined(
+    alloc: Global,
+    whole: Site,
+    base: KeptSite,
+    new: &[Op],
+    apart: &[ObjectId],
+) -> Result<KeptSite, OutOfMemory>
+    requires in_range { (a : Op) → Contains new.now a → IsInRange a }
+    requires accepted { AreAccepted (whole.ops ++ new.now) }
+    requires same { HaveSameBut apart.now base.ops (whole.ops ++ new.now) }
+    ensures { IfOk result (λ site. site.ops ≡ whole.ops ++ new.now) }
+{
+    let whole = with_ops(alloc, whole, new)?;
+    let (base, kept) = base.into_parts();
+    Ok(with_kept(base.history(), kept, whole, apart))
 }
 
 /// What a site made behind all that it has, with the named text, where it is asked for.
@@ -98,7 +156,7 @@ fn shown_whole(alloc: Global, made: MadeFrom, named: bool) -> Result<MadeBehind,
 }
 
 /// A site with these operations behind its own.
-fn with_ops(alloc: Global, mut taker: KeptSite, new: &[Op]) -> Result<KeptSite, OutOfMemory>
+fn with_ops(alloc: Global, mut taker: Site, new: &[Op]) -> Result<Site, OutOfMemory>
     requires in_range { (a : Op) → Contains new.now a → IsInRange a }
     requires accepted { AreAccepted (taker.ops ++ new.now) }
     ensures { IfOk result (λ site. site.ops ≡ taker.ops ++ new.now) }

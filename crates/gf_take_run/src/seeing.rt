@@ -19,7 +19,7 @@ pub(crate) fn check_known(history: &History, site: u8, seen: &Clock) -> Result<(
     ensures err { IfErr result (RefusesSeen site history.now.ops seen.now) }
 {
     for other in 1..9 {
-        let last = entry(seen, other);
+        let last = seen.entry(other);
         if history.count(other) < last {
             return Err(DrawingError::Absent(OpId {
                 site: other,
@@ -36,6 +36,11 @@ pub(crate) fn check_age(history: &History, site: u8, seen: &Clock) -> Result<(),
     ensures ok { OnOk result ((a x : Op) → ¬ (IsNewer site seen.now history.now.ops a x)) }
     ensures err { IfErr result (RefusesSeen site history.now.ops seen.now) }
 {
+    if history.count(site) <= seen.entry(site) {
+        // All operations of the site are known to the drawing, and none of them is newer.
+        history.recall_valid();
+        return Ok(());
+    }
     // Of site 0 there is no operation: these are the ones that the drawing knew.
     let known = reach(0, seen, history.ops());
     for op in history.ops() {
@@ -55,7 +60,7 @@ fn newer(history: &History, site: u8, seen: &Clock, op: &Op, known: &Clock) -> O
     ensures some { IfSome result (IsNewerThan site seen.now history.now.ops op.now) }
     ensures none { IfNone result ((x : Op) → ¬ (IsNewer site seen.now history.now.ops op.now x)) }
 {
-    if op.id.site != site || op.id.seq <= entry(seen, site) {
+    if op.id.site != site || op.id.seq <= seen.entry(site) {
         return None;
     }
     first_beyond(site, &op.past, known)
@@ -68,8 +73,8 @@ fn first_beyond(site: u8, past: &Clock, known: &Clock) -> Option<OpId>
         → entry past.now t ≤ entry known.now t) }
 {
     for other in 1..9 {
-        let seq = entry(past, other);
-        if other != site && entry(known, other) < seq {
+        let seq = past.entry(other);
+        if other != site && known.entry(other) < seq {
             return Some(OpId { site: other, seq });
         }
     }
@@ -81,7 +86,7 @@ pub(crate) fn made_since(history: &History, site: u8, seen: &Clock) -> Option<Ma
     requires { IsSite site }
     ensures { result ≡ since_drawing site seen.now history.now.ops }
 {
-    let known = entry(seen, site);
+    let known = seen.entry(site);
     let last = history.count(site);
     if last <= known {
         return None;
@@ -93,12 +98,4 @@ pub(crate) fn made_since(history: &History, site: u8, seen: &Clock) -> Option<Ma
         },
         last: OpId { site, seq: last },
     })
-}
-
-/// How many operations of a site a clock counts.
-fn entry(clock: &Clock, site: u8) -> u32
-    ensures { result ≡ entry clock.now site }
-{
-    let place = usize::from(site).saturating_sub(1);
-    clock.0.get(place).copied().unwrap_or(0)
 }

@@ -5,7 +5,7 @@ ghost use Rattle.gf_fig_named.specs.NamedFigures.{AreNamed};
 ghost use Rattle.gf_ops.specs.Limits.{IsInRange};
 ghost use Rattle.gf_ops.specs.OperationOrder.{IsSite};
 ghost use Rattle.gf_run.specs.RefusedRuns.{IsBetween};
-ghost use Rattle.gf_edit.specs.MadeOperations.{made_of, made_until};
+ghost use Rattle.gf_edit.specs.MadeOperations.{made_of};
 ghost use Rattle.gf_ops.specs.declared.op.Op.{Op};
 ghost use Rattle.gf_take_run.specs.TakenText.{DenotesDrawing};
 ghost use Rattle.gf_take_run.specs.TakeRun.{RefusesFigText, RefusesParts, RefusesTaking};
@@ -28,7 +28,7 @@ use crate::{TakeRequest, TakeRunError, Taken};
 use gf_base::OutOfMemory;
 use gf_edit::{Made, push_line};
 use gf_kept::{KeptSite, KeptVersions};
-use gf_ops::{Op, OpId};
+use gf_ops::Op;
 use gf_run::Answer;
 use gf_site::Replica;
 use std::alloc::Global;
@@ -103,8 +103,8 @@ pub fn take_behind(
     Ok(take_drawing(alloc, taker, fig, &drawn, request)?)
 }
 
-/// What a site took of a drawing: the new operations, their lines with what is told of them, and the
-/// site with these operations.
+/// What a site took of a drawing: the new operations, their lines with what is told of them, and
+/// the site with these operations.
 #[derive(Drop)]
 pub struct TakenDrawing {
     pub ops: Vec<Op>,
@@ -157,19 +157,9 @@ fn made_of(ops: &[Op]) -> Option<Made>
 {
     let mut made = None;
     for op in ops {
-        made = Some(until(made, op.id));
+        made = Some(Made::until(made, op.id));
     }
     made
-}
-
-/// What is told of operations, with one more behind them.
-fn until(made: Option<Made>, last: OpId) -> Made
-    ensures { result ≡ made_until made last }
-{
-    Made {
-        first: made.map_or(last, |made| made.first),
-        last,
-    }
 }
 
 /// The lines of operations, and a text behind them.

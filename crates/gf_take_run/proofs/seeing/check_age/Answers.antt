@@ -2,9 +2,18 @@ use Rattle.std.proofs.Common.{rules, arith, ◌≡◌, ◌<◌, ◌≤◌, List,
 use Rattle.std.specs.Prelude.{Contains}
 use Rattle.std.proofs.lemmas.List.{take_all}
 use Rattle.gf_ops.specs.declared.op.Op.{Op}
+use Rattle.gf_ops.specs.OperationOrder.{count_of, entry}
 use Rattle.gf_take_run.specs.SeenDrawing.{IsNewer}
-use Rattle.gf_take_run.proofs.SeenLemmas.{none_more}
+use Rattle.gf_take_run.proofs.SeenLemmas.{none_more, none_newer}
 use Rattle.gf_take_run.proofs.seeing.check_age.Goals as goal
+
+pub returns-then-count-entry-clause-ok : goal.returns-then-count-entry-clause-ok
+returns-then-count-entry-clause-ok c =
+    let s = c.args.site in
+    let seen = c.args.seen.now in
+    let h = c.args.history.now.ops in
+    let all : count_of h s ≤ entry seen s = search (rules, arith) in
+    none_newer s seen h c.recall_valid.ensures all
 
 pub loop-op-preserved : goal.loop-op-preserved
 loop-op-preserved c =
