@@ -8,8 +8,6 @@ use Rattle.std.proofs.lemmas.List.Elements.{Contains-append_right, Contains-get_
 use Rattle.gf_ops.specs.Accepted.{AreAccepted, next as accepted_next}
 use Rattle.gf_ops.specs.ValidHistory.{IsValid}
 use Rattle.gf_site.proofs.ValidLemmas.{valid_push}
-use Rattle.gf_status.specs.declared.objects.ObjectStatus.{ObjectStatus}
-use Rattle.gf_status.specs.KeptStatuses.{AreKept}
 use Rattle.gf_take_run.proofs.JoinedLemmas.{accepted_behind}
 use Rattle.gf_ops.specs.declared.op.Op.{Op}
 use Rattle.gf_causal.specs.HeldOperations.{AreHeld}
@@ -163,27 +161,27 @@ given_history x y s t ops given same is =
     subst (λ (l : List Op). y ≡ record { ops = l; held = x.held })
     (ap (λ (u : SiteState). u.ops) same ∙ is) given
 
--- the statuses are those of some objects of a history by rule
-pub record IsForgotten (h : List Op) (ss : List ObjectStatus) : Type 0 where
+-- what is kept of a history by rule
+pub record IsForgotten (Keeps : List Op → Type 0) (h : List Op) : Type 0 where
   pub valid : IsValid h
   pub accepted : AreAccepted h
-  pub kept : AreKept h ss
+  pub kept : Keeps h
 
 -- one operation more is there
-pub forgotten_more : (h ops : List Op) (i : ℕ) (a : Op) (ss new : List ObjectStatus)
+pub forgotten_more : (Keeps New : List Op → Type 0) (h ops : List Op) (i : ℕ) (a : Op)
     → i < length ops → a ≡ get_or ops i a → IsValid (h ++ ops) → AreAccepted (h ++ ops)
-    → IsForgotten (h ++ take i ops) ss
-    → (IsValid (h ++ take i ops) → IsValid ((h ++ take i ops) ++ a ∷ []) → AreKept (h ++ take i ops) ss
-    → AreKept ((h ++ take i ops) ++ a ∷ []) new)
-    → IsForgotten (h ++ take (i + 1) ops) new
-forgotten_more h ops i a ss new within is valid run f forgets =
+    → IsForgotten Keeps (h ++ take i ops)
+    → (IsValid (h ++ take i ops) → IsValid ((h ++ take i ops) ++ a ∷ []) → Keeps (h ++ take i ops)
+    → New ((h ++ take i ops) ++ a ∷ []))
+    → IsForgotten New (h ++ take (i + 1) ops)
+forgotten_more Keeps New h ops i a within is valid run f forgets =
     let front = h ++ take i ops in
     let fits = accepted_behind h ops run i a within is in
     let inside = subst (Contains ops) (sym is) (Contains-get_or ops i a within) in
     let range = valid.in_range a (Contains-append_right h ops a inside) in
     let more = valid_push front f.accepted f.valid a range fits in
     let longer = take_more ops i a within ∙ ap (λ (b : Op). take i ops ++ b ∷ []) (sym is) in
-    subst (λ l. IsForgotten l new) (append_assoc h (take i ops) (a ∷ [])
+    subst (IsForgotten New) (append_assoc h (take i ops) (a ∷ [])
     ∙ ap (λ l. h ++ l) (sym longer)) (record {
       valid = more;
       accepted = accepted_next f.accepted fits;

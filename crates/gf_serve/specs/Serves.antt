@@ -45,8 +45,8 @@ pub record AnswersAsked (known : List Op) (asks : Task) (body text : List ℕ) (
   pub answers : Answers known request reply next
   pub written : IsReplyText reply text
 
--- what is asked for, if that is a request, is answered by the text behind the known operations; next
--- are those that are known then
+-- what is asked for, if that is a request, is answered by the text behind the known operations;
+-- next are those that are known then
 abbrev pub IsAnswered : List Op → Option Task → List ℕ → List ℕ → List Op → Type 0
 IsAnswered known (Some asks) body text next = AnswersAsked known asks body text next
 IsAnswered known None body text next =
@@ -83,8 +83,8 @@ abbrev pub IsNextText : List Op → List ℕ → List ℕ → Type 0
 IsNextText known rest text =
     (text ≡ []) ⊎ (AnswersOne known rest text ⊎ (text ≡ refused_text (codes "no request")))
 
--- the first requests of the input are answered, and known bytes grow from old to new by the answers,
--- with the first n bytes of the next answer, or none
+-- the first requests of the input are answered, and known bytes grow from old to new by the
+-- answers, with the first n bytes of the next answer, or none
 pub record AnswersFirst (all : List ℕ) (old new : Option (List ℕ)) : Type 0 where
   pub out : List ℕ
   pub known : List Op

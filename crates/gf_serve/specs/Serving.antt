@@ -1,5 +1,5 @@
--- What a service answers behind the operations that it was given, each request as the command of its
--- name (this project's choice).
+-- What a service answers behind the operations that it was given, each request as the command of
+-- its name (this project's choice).
 use Rattle.std.specs.Prelude.{◌≡◌, ℕ, ◌+◌, List, ◌++◌, length, ⊤}
 use Rattle.gf_streams.specs.TextLines.{numbered_lines}
 use Rattle.gf_ops.specs.declared.op.Op.{Op}

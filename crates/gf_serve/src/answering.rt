@@ -26,7 +26,7 @@ use std::alloc::Global;
 use std::thread::Threads;
 
 /// Takes operation lines. A copy of the replica takes them, so a refusal leaves it as it was. What
-/// was kept of the history is found anew.
+/// was kept of the objects of new operations is forgotten.
 pub(crate) fn lines<R: Threads + Sync>(
     rt: &R,
     alloc: Global,
@@ -47,8 +47,9 @@ pub(crate) fn lines<R: Threads + Sync>(
     match read_behind(rt, alloc, copy, text, workers) {
         Ok(next) => match arrival(replica, &next) {
             Some(came) => {
+                let had = replica.history().ops().len();
                 *replica = next;
-                *kept = Kept::new(alloc);
+                kept.forget_behind(alloc, replica.history(), had);
                 Reply::Lines(came)
             }
             None => Reply::Refused(Refusal::Run(StudioError::OutOfMemory)),

@@ -45,8 +45,8 @@ pub fn serve_run<T: Threads + Sync, R: Source, W: Sink>(
     ensures all { OnOk result (IfSome (R.left source.old) (λ bytes.
         AnswersAll bytes (W.taken sink.old) (W.taken sink.new))) }
     ensures flushed { OnOk result (IsTrue (W.flushed sink.new)) }
-    // The first requests were answered so, and of the next answer at most a prefix was written. What
-    // is no request is refused.
+    // The first requests were answered so, and of the next answer at most a prefix was written.
+    // What is no request is refused.
     ensures first { OnErr result (IfSome (R.left source.old) (λ bytes.
         AnswersFirst bytes (W.taken sink.old) (W.taken sink.new))) }
 {

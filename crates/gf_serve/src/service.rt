@@ -14,8 +14,8 @@ use std::alloc::Global;
 use std::marker::Model;
 use std::thread::Threads;
 
-/// The operations that were given, those that wait among them, and what was found before. It is seen
-/// as a replica is.
+/// The operations that were given, those that wait among them, and what was found before. It is
+/// seen as a replica is.
 #[derive(Drop)]
 pub struct Service {
     alloc: Global,

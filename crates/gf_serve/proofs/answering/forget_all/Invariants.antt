@@ -9,4 +9,4 @@ use Rattle.gf_serve.proofs.answering.forget_all.Given as goal
 abbrev pub invariant-loop-op : goal.invariant-loop-op
 invariant-loop-op l = (h : List Op) → IsValid h → AreAccepted h → IsValid (h ++ l.ops)
     → AreAccepted (h ++ l.ops) → AreKept h l.initial.statuses
-    → IsForgotten (h ++ take l.op-index l.ops) l.statuses
+    → IsForgotten (λ k. AreKept k l.statuses) (h ++ take l.op-index l.ops)

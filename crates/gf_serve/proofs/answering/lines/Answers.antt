@@ -7,9 +7,6 @@ use Rattle.gf_serve.specs.declared.request.Request.TheVariants as request
 use Rattle.gf_serve.proofs.AnswerLemmas.{lines_refused, lines_taken, unchanged}
 use Rattle.gf_serve.proofs.answering.lines.Goals as goal
 
-pub returns-in-Some-clause-keeps : goal.returns-in-Some-clause-keeps
-returns-in-Some-clause-keeps g c = c.new.ensures c.in-Ok-read_behind.next.ops
-
 pub returns-in-Some-clause-answers : goal.returns-in-Some-clause-answers
 returns-in-Some-clause-answers g c = λ known d.
     let next = c.in-Ok-read_behind.next in
