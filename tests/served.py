@@ -4,7 +4,7 @@
 A run has 1 to 60 requests. Operations of several sites come in any order, some again, some late, some at fault. Drawings are
 taken that were changed, of the newest text or of an older one. What is no request is asked, too. Each answer has to be what
 `fig --named`, `take` and `status` tell of all lines that came before, to the byte. Half of the runs ask as soon as they have
-the answer before, the others ask all at once. Then come inputs and outputs that end a server.
+the answer before, the others ask all at once. Then come inputs and outputs that end a server, and few and many lines at once.
 
 FIGGROUP names the program, else it is the one in bin/."""
 
@@ -221,11 +221,33 @@ def ends():
             yield f"{list(channels)} fails: {wrote}, {ended}"
 
 
+def move(number):
+    """The line of an operation of site 1, which creates one of ten boxes, or moves one."""
+    made = {"id": [1, number], "past": [number - 1] + [0] * 7}
+    if number <= 10:
+        box = {"kind": "box", "place": [9 * number, 0], "size": [8, 8], "colour": "0000ff", "layer": 1, "shown": True}
+        return spelled({**made, "op": "create", **box})
+    return spelled({**made, "op": "set", "object": [1, number % 10 + 1], "set": "place", "to": [number, number % 7]})
+
+
+def grows():
+    """Asks what is drawn between few lines and many, more than a server forgets one by one. What is wrong with its answers."""
+    lines, commands, server = [move(number) for number in range(1, 2401)], Commands(), Serving()
+    for first, last in ((0, 100), (100, 1400), (1400, 2400)):
+        body = b"".join(lines[first:last])
+        for asked, given in (({"do": "lines", "bytes": len(body)}, body), ({"do": "named"}, b""), ({"do": "status"}, b"")):
+            answer = commands.answer(asked, given)
+            wrote = server.ask(spelled(asked) + given, len(answer))
+            if wrote != answer:
+                yield f"{asked['do']} behind {last} lines: {wrote[:200]}, and not {answer[:200]}"
+    server.end()
+
+
 def main():
     runs, seed = [*sys.argv[1:], *["300", "1"][len(sys.argv) - 1 :]]
     with Pool(os.cpu_count()) as pool:
         found = pool.map(fault_of, [f"{seed}.{number}" for number in range(int(runs))], 1)
-    faults = [fault for fault, _ in found if fault] + list(ends())
+    faults = [fault for fault, _ in found if fault] + list(ends()) + list(grows())
     for fault in faults:
         print(fault, file=sys.stderr)
     print(f"served: {runs} runs of {sum(count for _, count in found)} requests, {len(faults)} failed")
