@@ -51,8 +51,7 @@ pub fn faults_of(alloc: Global, text: Vec<u8>, editor: Option<u8>) -> Result<Vec
         take_line(alloc, &mut check, number, line, editor)?;
         lines.advance();
     }
-    // The clause of `history` says that it is valid.
-    let _ = check.replica.history();
+    check.replica.recall_state();
     Ok(check.telling.into_text())
 }
 
@@ -135,9 +134,7 @@ fn step_all(
     ensures { OnOk result (StepsOn replica.old telling.old replica.new telling.new) }
 {
     loop {
-        // The clauses of both calls say what every replica keeps.
-        let _ = replica.history();
-        let _ = replica.held();
+        replica.recall_state();
         match replica.step() {
             Ok(Step::Applied(_)) => {}
             Ok(Step::Dropped(id, fault)) => tell_drop(alloc, replica, seen, telling, (id, fault))?,

@@ -40,8 +40,7 @@ fn make(alloc: Global, read: ReadLines, editor: u8) -> Result<Answer<Option<Made
     ensures between { IfErr result (λ e. IfSome (of_edit e) IsBetween) }
 {
     let ReadLines { replica, commands } = read;
-    // The clause of `held` says that what a replica holds rises by id.
-    let _ = replica.held();
+    replica.recall_state();
     let mut site = Site::with_replica(alloc, editor, replica);
     match check_waiting(alloc, &site) {
         Ok(()) => make_all(alloc, &mut site, commands),

@@ -139,8 +139,7 @@ impl KeptVersions {
         ensures listed { IfOk result (λ found.
             IsItemListing versions.now (op.now ∷ []) most (option_map (λ v. v.items) found)) }
     {
-        // The clause of `history` says that the history is valid.
-        let _ = versions.history();
+        versions.recall_valid();
         match &op.change {
             Change::Create(_) => self.on_object(alloc, versions, ObjectId(op.id), most),
             Change::Set { .. } => Ok(Some(Vec::new(alloc))),
@@ -164,8 +163,7 @@ impl KeptVersions {
         ensures few { IfOk result (λ found. IfSome found (λ items. length items.items ≤ most)) }
         ensures more { IfOk result (λ found. IfNone found (HasMoreOn versions.now object most)) }
     {
-        // The clause of `history` says that the history is valid.
-        let _ = versions.history();
+        versions.recall_valid();
         if let Some(kept) = self.objects.get(&object) {
             if most < kept.len() {
                 return Ok(None);

@@ -84,6 +84,15 @@ impl KeptSite {
         self.site.history()
     }
 
+    /// Recalls that the history is accepted and valid. A caller takes no more of the call than its
+    /// clauses.
+    pub fn recall_history(&self)
+        ensures accepted { AreAccepted self.now.ops }
+        ensures valid { IsValid self.now.ops }
+    {
+        let _ = self.history();
+    }
+
     /// The history with the table of its positions.
     pub fn indexed(&self) -> &IndexedHistory
         ensures { result.now ≡ self.now.ops }

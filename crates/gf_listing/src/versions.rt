@@ -67,6 +67,13 @@ impl<'h> Versions<'h> {
         self.history
     }
 
+    /// Recalls that the history is valid. A caller takes no more of the call than its clause.
+    pub fn recall_valid(&self)
+        ensures { IsValid self.now }
+    {
+        let _ = self.history();
+    }
+
     /// The operations, in the order of the history.
     pub fn ops(&self) -> &'h [Op]
         ensures ops { result.now ≡ self.now }
@@ -106,8 +113,7 @@ impl<'h> Versions<'h> {
         requires { IsMade self.now object }
         ensures { IfOk result (λ count. IsCount self.now object count) }
     {
-        // The clause of `history` says that the history is valid.
-        let _ = self.history();
+        self.recall_valid();
         let classes = self.classes(alloc, object)?;
         classes.count(alloc, MOST_COUNTED)
     }

@@ -140,6 +140,14 @@ impl History {
         let _ = self.ops();
     }
 
+    /// Recalls that each operation was accepted behind those before it, as
+    /// [`History::recall_valid`] does.
+    pub fn recall_accepted(&self)
+        ensures { AreAccepted self.now.ops }
+    {
+        let _ = self.ops();
+    }
+
     /// Whether the operation may be added now, with the first of its faults. The check looks up the
     /// last known operation of each site, and the creation of the changed object. Each id of the
     /// aim costs fewer than thirty look-ups. An id whose operation has an aim of its own costs a

@@ -38,8 +38,7 @@ impl Pass {
         requires { from + len ≤ band.window.width }
         ensures { result ≡ record { from = from; len = len } }
     {
-        // The clause of `width` says that the columns are few.
-        let _ = band.window().width();
+        band.window().recall_sides();
         for i in 0..len.div_ceil(TILE) {
             crew.gate.enter(who, number(band, from + TILE * i));
         }
@@ -66,8 +65,7 @@ fn number(band: Band, column: usize) -> u32
     requires { column < band.window.width }
 {
     let window = band.window();
-    // The clause of `height` says that the rows are few.
-    let _ = window.height();
+    window.recall_sides();
     let tiles = (window.width() as usize).div_ceil(TILE);
     (band.top() / TILE * tiles + column / TILE) as u32
 }

@@ -73,8 +73,7 @@ fn rows_from<'l, S: Shape>(
     ensures rows { IfOk result (λ rows.
         AreRows (layered S.holds part.now.layers) part.now.band.window top rows.items) }
 {
-    // The clause of `top` says that the rows are few.
-    let _ = part.top();
+    part.recall_rows();
     let mut rows = Vec::with_capacity(alloc, count)?;
     let mut strip = Strip::new(alloc);
     let mut space = Workspace::new(alloc);

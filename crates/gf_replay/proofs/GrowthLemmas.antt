@@ -4,7 +4,7 @@ use Rattle.gf_ops.specs.declared.op.Op.{Op}
 use Rattle.gf_ops.specs.declared.op.OpId.{OpId}
 use Rattle.gf_site.specs.ReplicaState.{ReplicaState}
 use Rattle.gf_site.specs.ReplicaSteps.{AppliesNext}
-use Rattle.gf_replay.specs.Behind.{Grows}
+use Rattle.gf_site.specs.Growth.{Grows}
 
 pub grows_same : (h k : List Op) → k ≡ h → Grows h k
 grows_same h k e = record { more = []; whole = e ∙ sym (append-nil h) }

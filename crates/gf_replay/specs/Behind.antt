@@ -1,6 +1,6 @@
 -- A replica that goes on: what it was given, and what lines behind that make of it (this project's
 -- choice, over causal delivery).
-use Rattle.std.specs.Prelude.{◌≡◌, ℕ, List, ◌++◌}
+use Rattle.std.specs.Prelude.{ℕ, List, ◌++◌}
 use Rattle.gf_streams.specs.TextLines.{numbered_lines}
 use Rattle.gf_ops.specs.declared.op.Op.{Op}
 use Rattle.gf_causal.specs.Ready.{NoneIsReady}
@@ -24,8 +24,3 @@ pub record DeliversLines (known : List Op) (bytes : List ℕ) (x : ReplicaState)
 pub record Divides (ops history waiting : List Op) : Type 0 where
   pub delivers : Delivers ops history
   pub others : AreWaiting ops history waiting
-
--- the history new has the operations of old, and others behind them
-pub record Grows (old new : List Op) : Type 0 where
-  pub more : List Op
-  pub whole : new ≡ old ++ more

@@ -8,7 +8,7 @@ use Rattle.gf_json.specs.declared.line_error.LineError.TheVariants as fault
 use Rattle.gf_site.specs.ReplicaState.{ReplicaState}
 use Rattle.gf_replay.specs.declared.blocks.Reading.{Reading}
 use Rattle.gf_replay.specs.declared.reading_error.ReadingError.{ReadingError}
-use Rattle.gf_replay.specs.Behind.{Grows}
+use Rattle.gf_site.specs.Growth.{Grows}
 use Rattle.gf_replay.specs.LineSteps.{HasRead}
 use Rattle.gf_replay.specs.Refusing.{RefusesText}
 

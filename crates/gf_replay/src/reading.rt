@@ -6,10 +6,11 @@ ghost use Rattle.gf_ops.specs.declared.op.Op.{Op};
 ghost use Rattle.gf_ops.specs.Limits.{IsInRange};
 ghost use Rattle.gf_replay.specs.Blocks.{AreOfLines, IsBefore, IsBlock, IsReading, TakesBlock};
 ghost use Rattle.gf_replay.specs.Denoting.{Denotes};
-ghost use Rattle.gf_replay.specs.Behind.{DeliversLines, Grows, HasDelivered};
+ghost use Rattle.gf_replay.specs.Behind.{DeliversLines, HasDelivered};
 ghost use Rattle.gf_replay.specs.Refusing.{RefusesText};
 ghost use Rattle.gf_replay.specs.Waiting.{DenotesWaiting};
 ghost use Rattle.gf_replay.specs.LineSteps.{HasRead};
+ghost use Rattle.gf_site.specs.Growth.{Grows};
 
 use crate::blocks::{Block, Reading, read_block};
 use crate::{ReadingError, line_refusal, take_op};
@@ -36,8 +37,7 @@ pub fn read_replica<R: Threads + Sync>(
     ensures err { IfErr result (RefusesText [] text.items) }
 {
     let replica = read_behind(rt, alloc, Replica::new(alloc), text, workers)?;
-    // The clause of `held` says that the held ids rise.
-    let _ = replica.held();
+    replica.recall_state();
     Ok(replica)
 }
 

@@ -2,7 +2,7 @@
 
 ghost use Rattle.std.specs.Prelude.{◌≡◌, IfErr, OnOk};
 ghost use Rattle.gf_ops.specs.Limits.{IsInRange};
-ghost use Rattle.gf_replay.specs.Behind.{Grows};
+ghost use Rattle.gf_site.specs.Growth.{Grows};
 ghost use Rattle.gf_replay.specs.LineSteps.{RefusesStepping};
 ghost use Rattle.gf_replay.specs.Taking.{RefusesOp, StepsAll, TakesOp, of_line};
 
@@ -48,9 +48,7 @@ fn step_all(replica: &mut Replica) -> Result<(), ReadingError>
     ensures err { IfErr result (RefusesStepping replica.old) }
 {
     loop {
-        // The clauses of both calls say what every replica keeps.
-        let _ = replica.history();
-        let _ = replica.held();
+        replica.recall_state();
         match replica.step() {
             Ok(Step::Applied(_)) => {}
             Ok(Step::Dropped(id, fault)) => return Err(ReadingError::Dropped(id, fault)),

@@ -56,9 +56,7 @@ impl Band {
         ensures last { result ≡ self.now.top + self.now.count - 1 }
         ensures within { result < self.now.window.height }
     {
-        // The clause of `count` says that the rows are few.
-        let _ = self.count();
-        self.top + self.count - 1
+        self.top + self.count() - 1
     }
 
     /// How many rows the band has, 1 to 4,096.

@@ -79,6 +79,13 @@ impl<'l, 'a, S: Shape> Part<'l, 'a, S> {
         self.band.top()
     }
 
+    /// Recalls that the rows of a part end above row 4,096, as [`crate::Window::recall_sides`] does.
+    pub fn recall_rows(&self)
+        ensures { self.now.band.top + self.now.band.count ≤ 4096 }
+    {
+        let _ = self.top();
+    }
+
     /// How many rows the part has.
     pub fn count(&self) -> usize
         ensures { result ≡ self.now.band.count }

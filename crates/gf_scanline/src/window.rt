@@ -90,6 +90,16 @@ impl Window {
         self.frame.height()
     }
 
+    /// Recalls that a window has at most 4,096 columns and rows. A caller takes no more of the call
+    /// than its clauses.
+    pub fn recall_sides(&self)
+        ensures width { self.now.width ≤ 4096 }
+        ensures height { self.now.height ≤ 4096 }
+    {
+        let _ = self.width();
+        let _ = self.height();
+    }
+
     /// The y of row `j`.
     pub fn line(&self, j: usize) -> i32
         requires { j < self.now.height }

@@ -1,7 +1,8 @@
 //! A replica: a history with its table, and what waits.
 
 ghost use Rattle.std.specs.Prelude.{◌≡◌, ◌≢◌, ◌↔◌, ◌<◌, ◌++◌, ◌∷◌, [], length, Some, Ok, Err};
-ghost use Rattle.std.specs.Prelude.{IfOk, OnOk, OnErr, map};
+ghost use Rattle.std.specs.Prelude.{Contains, IfOk, OnOk, OnErr, map};
+ghost use Rattle.gf_ops.specs.declared.op.Op.{Op};
 ghost use Rattle.gf_ops.specs.Limits.{IsInRange};
 ghost use Rattle.gf_ops.specs.Accepted.{IsAccepted, AreAccepted};
 ghost use Rattle.gf_ops.specs.ValidHistory.{IsValid};
@@ -9,6 +10,7 @@ ghost use Rattle.gf_causal.specs.declared.buffer.Offered.{Offered};
 ghost use Rattle.gf_causal.specs.declared.faults.OfferFault.{OfferFault};
 ghost use Rattle.gf_causal.specs.HeldOperations.{AreHeld};
 ghost use Rattle.gf_table.specs.Standing.{StandsFor};
+ghost use Rattle.gf_site.specs.Growth.{Grows};
 ghost use Rattle.gf_site.specs.ReplicaState.{new_replica};
 ghost use Rattle.gf_site.specs.ReplicaSteps.{HasNext, StepsOnce};
 ghost use Rattle.gf_site.specs.Offers.{HasOtherThan, HasAlready, IsNewTo, ComesToHold};
@@ -19,6 +21,7 @@ use gf_ops::{History, Op, OpFault, OpId};
 use gf_table::{GroupTable, IndexedHistory};
 use std::alloc::Global;
 use std::marker::Model;
+use std::mem;
 
 /// What a step came to.
 #[derive(Clone, Copy, Debug, PartialEq, Eq)]
@@ -86,11 +89,30 @@ impl Replica {
         })
     }
 
-    /// Has the history of another replica from now on, and holds what it held.
-    pub(crate) fn take_history(&mut self, other: Replica)
-        ensures { self.new ≡ record self.old { ops = other.ops } }
+    /// Has the history of another replica from now on, and holds what it held. Answers the other one
+    /// with the history that this had.
+    pub(crate) fn take_history(&mut self, other: Replica) -> Replica
+        ensures new { self.new ≡ record self.old { ops = other.ops } }
+        ensures old { result ≡ record other { ops = self.old.ops } }
     {
-        self.history = other.history;
+        let history = mem::replace(&mut self.history, other.history);
+        Replica {
+            alloc: other.alloc,
+            history,
+            buffer: other.buffer,
+        }
+    }
+
+    /// Comes to have and hold what another replica does, whose history begins with this one's.
+    pub fn catch_up(&mut self, other: &Replica) -> Result<(), OutOfMemory>
+        requires { Grows self.old.ops other.now.ops }
+        ensures { OnOk result (self.new ≡ other.now) }
+    {
+        other.recall_state();
+        let had = self.history.history().ops().len();
+        self.add_all(&other.history().ops()[had..])?;
+        self.buffer = other.buffer.copy(self.alloc)?;
+        Ok(())
     }
 
     /// The history.
@@ -102,6 +124,16 @@ impl Replica {
         let history = self.history.history();
         let _ = history.ops();
         history
+    }
+
+    /// Recalls what every replica keeps. A caller takes no more of the call than its clauses.
+    pub fn recall_state(&self)
+        ensures accepted { AreAccepted self.now.ops }
+        ensures valid { IsValid self.now.ops }
+        ensures held { AreHeld self.now.held }
+    {
+        let _ = self.history();
+        let _ = self.held();
     }
 
     /// How many operations are held.
@@ -128,6 +160,19 @@ impl Replica {
         ensures err { OnErr result (self.new ≡ self.old) }
     {
         self.history.add(op)
+    }
+
+    /// Adds operations that the history accepts, each behind those before it.
+    pub fn add_all(&mut self, ops: &[Op]) -> Result<(), OutOfMemory>
+        requires in_range { (a : Op) → Contains ops.now a → IsInRange a }
+        requires accepted { AreAccepted (self.old.ops ++ ops.now) }
+        ensures { OnOk result (self.new ≡ record self.old { ops = self.old.ops ++ ops.now }) }
+    {
+        for op in ops {
+            let copy = op.copy(self.alloc)?;
+            self.add(copy)?;
+        }
+        Ok(())
     }
 
     /// Holds an operation that is neither held nor in the history.

@@ -1,7 +1,8 @@
 //! A site: what one designer has, and what waits there.
 
 ghost use Rattle.std.specs.Prelude.{◌≡◌, ◌≢◌, ◌↔◌, ◌<◌, ◌++◌, ◌∷◌, [], length, IsTrue, Ok, Err};
-ghost use Rattle.std.specs.Prelude.{IfOk, IfErr, OnOk, OnErr, map};
+ghost use Rattle.std.specs.Prelude.{Contains, IfOk, IfErr, OnOk, OnErr, map};
+ghost use Rattle.gf_ops.specs.declared.op.Op.{Op};
 ghost use Rattle.gf_ops.specs.Limits.{is_change, IsInRange};
 ghost use Rattle.gf_ops.specs.OperationOrder.{IsSite, count_of};
 ghost use Rattle.gf_ops.specs.Accepted.{IsNext, IsAccepted, AreAccepted};
@@ -106,11 +107,13 @@ impl Site {
         &self.replica
     }
 
-    /// Gives the history of the site to a replica, which goes on holding what it held.
-    pub fn give_history(self, replica: &mut Replica)
-        ensures { replica.new ≡ record replica.old { ops = self.ops } }
+    /// Gives the history of the site to a replica, which goes on holding what it held. Answers a
+    /// replica with the history that this had.
+    pub fn give_history(self, replica: &mut Replica) -> Replica
+        ensures new { replica.new ≡ record replica.old { ops = self.ops } }
+        ensures old { result.ops ≡ replica.old.ops }
     {
-        replica.take_history(self.replica);
+        replica.take_history(self.replica)
     }
 
     /// The history of the site.
@@ -120,6 +123,16 @@ impl Site {
         ensures valid { IsValid self.now.ops }
     {
         self.replica.history()
+    }
+
+    /// Recalls what every site keeps, as [`Replica::recall_state`] does.
+    pub fn recall_state(&self)
+        ensures number { IsSite self.now.number }
+        ensures accepted { AreAccepted self.now.ops }
+        ensures valid { IsValid self.now.ops }
+        ensures held { AreHeld self.now.held }
+    {
+        self.replica.recall_state();
     }
 
     /// How many operations the site holds.
@@ -166,6 +179,15 @@ impl Site {
         ensures err { OnErr result (self.new ≡ self.old) }
     {
         self.replica.add(op)
+    }
+
+    /// Adds operations that the history accepts, each behind those before it.
+    pub fn add_all(&mut self, ops: &[Op]) -> Result<(), OutOfMemory>
+        requires in_range { (a : Op) → Contains ops.now a → IsInRange a }
+        requires accepted { AreAccepted (self.old.ops ++ ops.now) }
+        ensures { OnOk result (self.new ≡ record self.old { ops = self.old.ops ++ ops.now }) }
+    {
+        self.replica.add_all(ops)
     }
 
     /// Holds an operation that is neither held nor in the history.

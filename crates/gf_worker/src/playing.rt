@@ -132,7 +132,7 @@ impl Work {
         }
         match self.site.author(change) {
             Ok(op) => {
-                let _ = self.site.history();
+                self.site.recall_state();
                 self.report.accepted.push_reserved(op.id);
                 self.short = !send_all(rt, alloc, links, &mut self.peers, &op);
                 return;

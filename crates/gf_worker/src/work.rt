@@ -127,9 +127,7 @@ impl Work {
             self.short = true;
             return false;
         };
-        // The clauses of both calls say what every site keeps.
-        let _ = self.site.history();
-        let _ = self.site.number();
+        self.site.recall_state();
         goes_on(step)
     }
 }

@@ -62,8 +62,7 @@ pub fn site_worker<R: Wait, G: Gate>(
     work.play_all(rt, alloc, links, gate, script.0);
     send_last(rt, links, &mut work.peers, work.short);
     work.take_rest(rt, links);
-    // The clause of `history` says what every site keeps.
-    let _ = work.site.history();
+    work.site.recall_state();
     let Work {
         site,
         peers: seats,

@@ -12,5 +12,5 @@ loop-number-preserved c = rw c.advance.ensures (c.in_ok-take_line.ensures c.args
 pub returns : goal.returns
 returns c = rw c.into_text.ensures
     (checked_all c.args.editor c.args.text.items c.loop-number.check.replica
-    c.loop-number.check.telling c.history.ensures.valid
+    c.loop-number.check.telling c.recall_state.ensures.valid
     (rw c.in_default.ensures.none at c.loop-number.invariant))

@@ -1,6 +1,7 @@
 use Rattle.std.proofs.Common.{◌≡◌, ◌+◌, [], List, length}
 use Rattle.gf_ops.specs.declared.op.Op.{Op}
-use Rattle.gf_replay.specs.Behind.{Grows, HasDelivered}
+use Rattle.gf_replay.specs.Behind.{HasDelivered}
+use Rattle.gf_site.specs.Growth.{Grows}
 use Rattle.gf_replay.specs.Blocks.{AreOfLines, IsBefore}
 use Rattle.gf_replay.proofs.reading.read_behind.Given as goal
 

@@ -19,4 +19,4 @@ pub returns-clause-held : goal.returns-clause-held
 returns-clause-held g c =
     DenotesWaiting-read c.args.text.items c.in_ok-replica.replica
     (c.in_ok-replica.ensures.ok [] (subst (HasDelivered []) (sym c.new.ensures) none_delivered))
-    c.held.ensures.valid
+    c.recall_state.ensures.held

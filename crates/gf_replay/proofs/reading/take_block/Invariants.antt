@@ -1,7 +1,7 @@
 use Rattle.std.proofs.Common.{List, ℕ}
 use Rattle.gf_ops.specs.declared.op.Op.{Op}
 use Rattle.std.specs.Vec.Iter.{into_iter_items}
-use Rattle.gf_replay.specs.Behind.{Grows}
+use Rattle.gf_site.specs.Growth.{Grows}
 use Rattle.gf_replay.specs.Blocks.{AreOfLines, IsBefore}
 use Rattle.gf_replay.proofs.reading.take_block.Given as goal
 

@@ -19,19 +19,19 @@ loop-id-preserved c =
     let applies = rw c.in-Ok-Applied.field-0-is at c.in-Ok-Applied.ensures.ok in
     record {
       keeps = keeps_applied c.args.replica.now c.loop-id.replica c.step.new.self _
-          c.held.ensures.valid c.loop-id.invariant.keeps applies;
+          c.recall_state.ensures.held c.loop-id.invariant.keeps applies;
       grows = grows_applied c.args.replica.now.ops c.loop-id.replica c.step.new.self _
           c.loop-id.invariant.grows applies;
     }
 
 pub returns-in-Ok-Dropped-clause-err : goal.returns-in-Ok-Dropped-clause-err
 returns-in-Ok-Dropped-clause-err c = dropped_ready c.args.replica.now c.loop-id.replica
-    c.step.new.self _ _ c.loop-id.invariant.keeps c.history.ensures.accepted c.history.ensures.valid
+    c.step.new.self _ _ c.loop-id.invariant.keeps c.recall_state.ensures.accepted c.recall_state.ensures.valid
     (rw c.in-Ok-Dropped.field-0-is at c.in-Ok-Dropped.ensures.ok)
 
 pub returns-in-Ok-Idle-clause-ok : goal.returns-in-Ok-Idle-clause-ok
 returns-in-Ok-Idle-clause-ok c = idle_steps c.args.replica.now c.loop-id.replica c.step.new.self
-    c.loop-id.invariant.keeps c.history.ensures.accepted c.history.ensures.valid
+    c.loop-id.invariant.keeps c.recall_state.ensures.accepted c.recall_state.ensures.valid
     (rw c.in-Ok-Idle.field-0-is at c.in-Ok-Idle.ensures.ok)
 
 pub returns-in-Ok-Idle-clause-grows : goal.returns-in-Ok-Idle-clause-grows

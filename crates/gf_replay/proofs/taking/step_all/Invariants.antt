@@ -1,5 +1,5 @@
 use Rattle.std.proofs.Common.{length}
-use Rattle.gf_replay.specs.Behind.{Grows}
+use Rattle.gf_site.specs.Growth.{Grows}
 use Rattle.gf_replay.specs.Taking.{KeepsAll}
 use Rattle.gf_replay.proofs.taking.step_all.Given as goal
 

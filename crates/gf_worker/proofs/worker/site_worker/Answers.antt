@@ -47,4 +47,4 @@ returns g c =
     (last_items mid.peers mid.short c.deref_mut.result.now c.send_last.new.peers
     c.deref_mut.ensures.value c.send_last.ensures) c.take_rest.ensures.continues
     c.take_rest.ensures.ended c.take_rest.ensures.idle
-    c.history.ensures.valid
+    c.recall_state.ensures.valid

@@ -12,7 +12,7 @@ returns-then-most-len-clause-more c =
     (subst (Keeps h) (sym c.self.view_is) c.requires.keeps) c.args.object kept
     c.in-Some.ensures.value in
     let long : c.args.most < length kept = omega (arith, c.len.ensures, c.if-most-len.true) in
-    more_on h c.history.ensures.valid c.args.object kept all c.args.most long
+    more_on h c.recall_valid.ensures c.args.object kept all c.args.most long
 
 pub returns-in-Some-clause-found : goal.returns-in-Some-clause-found
 returns-in-Some-clause-found c =

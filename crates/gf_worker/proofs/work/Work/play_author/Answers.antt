@@ -18,7 +18,7 @@ returns-in-Ok g c =
     plays_author w (record { accepted = c.push_reserved.new.self; refused = w.report.refused })
     c.args.number c.args.change c.in-Ok.op c.author.new.self
     (with_items w.peers c.send_all.new.peers) c.send_all.result c.requires.long c.in-Ok.ensures.ok
-    c.history.ensures.valid (c.push_reserved.ensures.items ∙ ap (λ l. l ++ c.in-Ok.op.id ∷ [])
+    c.recall_state.ensures.valid (c.push_reserved.ensures.items ∙ ap (λ l. l ++ c.in-Ok.op.id ∷ [])
     c.reserve.ensures.items) refl
     (sends_items c.in-Ok.op c.send_all.result w.peers c.deref_mut.result.now c.send_all.new.peers
     c.deref_mut.ensures.value c.send_all.ensures)

@@ -8,7 +8,7 @@ returns-in_default-clause-continues c = continues_short c.args.self.now c.step.n
 
 pub returns-clause-continues : goal.returns-clause-continues
 returns-clause-continues c = continues_stepping c.args.self.now c.in-Ok.step c.step.new.self
-    c.number.ensures.site c.history.ensures.accepted c.history.ensures.valid c.in-Ok.ensures.ok
+    c.recall_state.ensures.number c.recall_state.ensures.accepted c.recall_state.ensures.valid c.in-Ok.ensures.ok
 
 pub returns-clause-idle : goal.returns-clause-idle
 returns-clause-idle c = λ e s. idle_step c.args.self.now.site c.in-Ok.step c.step.new.self
