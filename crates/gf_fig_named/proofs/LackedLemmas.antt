@@ -1,11 +1,12 @@
 -- The ids that a version of an object lacks are found among its other versions.
-use Rattle.std.proofs.Common.{◌≡◌, Bool, true, false, ℕ, ◌+◌, ◌<◌, ◌≤◌, List, [], ◌∷◌, ◌++◌}
+use Rattle.std.proofs.Common.{◌≡◌, Bool, true, false, ℕ, ◌+◌, ◌<◌, List, [], ◌∷◌, ◌++◌}
 use Rattle.std.proofs.Common.{get_or, length, refl, sym, ap}
 use Rattle.std.proofs.Common.{subst, ◌∙◌, inl, inr, take}
 use Rattle.std.specs.Prelude.{◌↔◌, ◌⊎◌, ◌&&◌, ◌==◌, not, Contains, OnOk, Result, Ok, Err}
 use Rattle.std.proofs.lemmas.Bool.{and_from, and_parts, cases_Bool, eq-eqb, eqb-true}
-use Rattle.std.proofs.lemmas.List.Elements.{Contains-append_left}
-use Rattle.std.proofs.lemmas.List.Elements.{Contains-push}
+use Rattle.std.proofs.lemmas.List.{take_more}
+use Rattle.std.proofs.lemmas.List.Elements.{Contains-append_left, Contains-get_or}
+use Rattle.std.proofs.lemmas.List.Elements.{Contains-push, Contains-push_cases}
 use Rattle.gf_base.proofs.ListLemmas.{Contains-cons_cases, Contains-cons_head, Contains-cons_tail}
 use Rattle.gf_base.proofs.ListLemmas.{not_Contains-nil}
 use Rattle.gf_shape.specs.declared.any_shape.AnyShape.{AnyShape}
@@ -14,53 +15,10 @@ use Rattle.gf_ops.specs.declared.op.OpId.{OpId}
 use Rattle.gf_versions.specs.declared.key.VersionKey.{VersionKey}
 use Rattle.gf_versions.specs.declared.placed.Placed.{Placed}
 use Rattle.gf_names.specs.RisingIds.{IsRisingOf}
-use Rattle.gf_fig_named.specs.Others.{AreElsewhere, AreLackedAt, AreOthers}
-use Rattle.gf_fig_named.specs.Others.{IsElsewhere, IsLackedOf}
-use Rattle.gf_fig_named.proofs.TakenLemmas.{any_default, snoc_cases, taken, taken_all}
-
-module _ (item : Placed AnyShape) (items : List (Placed AnyShape)) (k : ℕ) (x : Placed AnyShape)
-    (l : k < length items) (is : x ≡ get_or items k x) (old : List OpId)
-    (so : AreElsewhere (take k items) item.key old) where
-  abbrev more : List (Placed AnyShape)
-  more = take k items ++ x ∷ []
-
-  before : (i : OpId) → Contains old i → IsElsewhere more item.key i
-  before i c =
-      let w = (so i).0 c in
-      record {
-        item = w.item;
-        listed = Contains-append_left (take k items) (x ∷ []) w.item w.listed;
-        lacked = w.lacked;
-      }
-
-  -- what the next item has
-  pub more_lacked : (new : List OpId)
-      → ((i : OpId) → Contains new i ↔ (Contains old i ⊎ IsLackedOf item.key x.key i))
-      → AreElsewhere (take (k + 1) items) item.key new
-  more_lacked new adds i =
-      let one = taken items k x l is in
-      rw one (
-        (λ c. elim ((adds i).0 c) [
-          | inl o ↦ before i o
-          | inr n ↦ record { item = x; listed = Contains-push (take k items) x; lacked = n }
-        ]),
-        (λ w. (adds i).1 (elim (snoc_cases (take k items) x w.item w.listed) [
-          | inl e ↦ inr (subst (λ (p : Placed AnyShape). IsLackedOf item.key p.key i) e w.lacked)
-          | inr t ↦ inl ((so i).1
-              (record { item = w.item; listed = t; lacked = w.lacked }))
-        ])),
-      )
-
-  -- an item lacks nothing of itself
-  pub itself_lacked : x ≡ item → AreElsewhere (take (k + 1) items) item.key old
-  itself_lacked same = more_lacked old (λ i. (
-    (λ c. inl c),
-    (λ w. elim w [
-      | inl c ↦ c
-      | inr n ↦ absurd (n.lacking
-          (subst (λ (p : Placed AnyShape). Contains p.key.ops i) same n.has))
-    ]),
-  ))
+use Rattle.gf_table.specs.Standing.{positions_of}
+use Rattle.gf_fig_named.specs.Others.{AreElsewhere, AreLackedAmong, AreLackedAt, AreOthers}
+use Rattle.gf_fig_named.specs.Others.{ArePlaces, IsElsewhere, IsLackedOf}
+use Rattle.gf_fig_named.proofs.TakenLemmas.{any_default}
 
 -- what stands at one index is one
 pub at_index : (items : List (Placed AnyShape)) (k n : ℕ) (x item : Placed AnyShape) → k ≡ n
@@ -68,10 +26,74 @@ pub at_index : (items : List (Placed AnyShape)) (k n : ℕ) (x item : Placed Any
 at_index items k n x item same l is at =
     is ∙ (any_default items k x item l ∙ (ap (λ m. get_or items m item) same ∙ sym at))
 
-pub all_lacked : (items : List (Placed AnyShape)) (k : ℕ) → length items ≤ k → (key : VersionKey)
-    (found : List OpId) → AreElsewhere (take k items) key found → AreElsewhere items key found
-all_lacked items k l key found so =
-    subst (λ (t : List (Placed AnyShape)). AreElsewhere t key found) (taken_all items k l) so
+-- ---- the ids that are lacked among the items at places
+
+module _ (items : List (Placed AnyShape)) (places : List ℕ) (key : VersionKey) (k : ℕ)
+    (x : Placed AnyShape) (l : k < length places) (within : get_or places k 0 < length items)
+    (is : x ≡ get_or items (get_or places k 0) x) (old : List OpId)
+    (so : AreLackedAmong items (take k places) key old) where
+  -- what the item at the next place has
+  pub more_lacked : (new : List OpId)
+      → ((i : OpId) → Contains new i ↔ (Contains old i ⊎ IsLackedOf key x.key i))
+      → AreLackedAmong items (take (k + 1) places) key new
+  more_lacked new adds i =
+      let p = get_or places k 0 in
+      let one : take (k + 1) places ≡ take k places ++ p ∷ [] = take_more places k 0 l in
+      rw one (
+        (λ c. elim ((adds i).0 c) [
+          | inl o ↦ let w = (so i).0 o in record {
+            place = w.place;
+            listed = Contains-append_left (take k places) (p ∷ []) w.place w.listed;
+            item = w.item;
+            at = w.at;
+            lacked = w.lacked;
+          }
+          | inr n ↦ record {
+            place = p;
+            listed = Contains-push (take k places) p;
+            item = x;
+            at = is;
+            lacked = n;
+          }
+        ]),
+        (λ w. (adds i).1 (elim (Contains-push_cases (take k places) p w.place w.listed) [
+          | inl t ↦ inl ((so i).1 (record {
+            place = w.place;
+            listed = t;
+            item = w.item;
+            at = w.at;
+            lacked = w.lacked;
+          }))
+          | inr e ↦
+              let same = at_index items p w.place x w.item e within is w.at in
+              inr (subst (λ (y : Placed AnyShape). IsLackedOf key y.key i) (sym same) w.lacked)
+        ])),
+      )
+
+-- what is lacked among the places of an object is lacked among all items
+pub among_all : (items : List (Placed AnyShape)) (t : List (ObjectId × List ℕ))
+    → ArePlaces items (length items) t → (key : VersionKey) (found : List OpId)
+    → AreLackedAmong items (positions_of t key.object) key found → AreElsewhere items key found
+among_all items t places key found so i = (
+  (λ c.
+      let w = (so i).0 c in
+      let l = places.within key.object w.place w.listed in
+      record {
+        item = w.item;
+        listed = subst (Contains items) (sym w.at) (Contains-get_or items w.place w.item l);
+        lacked = w.lacked;
+      }),
+  (λ w.
+      let (k, l, at) = w.listed in
+      (so i).1 (record {
+        place = k;
+        listed = subst (λ (o : ObjectId). Contains (positions_of t o) k) w.lacked.object
+            (places.each k w.item l (sym at));
+        item = w.item;
+        at = sym at;
+        lacked = w.lacked;
+      })),
+)
 
 -- what versions of one object lack
 pub lacked_when : (key other : VersionKey) (old new : List OpId) → other.object ≡ key.object

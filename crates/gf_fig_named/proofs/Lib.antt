@@ -4,6 +4,7 @@ pub mod RaisedLemmas
 pub mod NamedLemmas
 pub mod TakenLemmas
 pub mod LackedLemmas
+pub mod PlaceLemmas
 pub mod NameLemmas
 pub mod TextLemmas
 pub mod KnownLemmas

@@ -1,15 +1,12 @@
 -- One more element of a list.
 use Rattle.std.proofs.Common.{◌≡◌, ℕ, zero, suc, ◌+◌, ◌<◌, ◌≤◌, List, [], ◌∷◌, ◌++◌}
 use Rattle.std.proofs.Common.{get_or, length, refl, sym, ap}
-use Rattle.std.proofs.Common.{◌∙◌, inl, inr, add-one, append-nil, arith, take}
-use Rattle.std.specs.Prelude.{◌⊎◌, Contains, IfOk, Result, Ok, Err}
+use Rattle.std.proofs.Common.{◌∙◌, add-one, append-nil, arith, take}
+use Rattle.std.specs.Prelude.{IfOk, Result, Ok, Err}
 use Rattle.std.specs.Prelude.{flat_map}
 use Rattle.std.specs.List.{AllZip}
 use Rattle.std.proofs.Math.Seq.{take-suc}
 use Rattle.std.proofs.lemmas.Grind.{flat_map-append}
-use Rattle.std.proofs.lemmas.List.Elements.{Contains-append_cases}
-use Rattle.gf_base.proofs.ListLemmas.{Contains-cons_cases}
-use Rattle.gf_base.proofs.ListLemmas.{not_Contains-nil}
 
 -- x stands in xs at index k
 module _ {X : Type 0} (xs : List X) (k : ℕ) (x : X) (l : k < length xs)
@@ -34,16 +31,6 @@ taken_all [] zero l = refl
 taken_all [] (suc k) l = refl
 taken_all (x ∷ xs) zero l = absurd (omega (arith, l))
 taken_all (x ∷ xs) (suc k) l = ap (λ t. x ∷ t) (taken_all xs k (omega (arith, l)))
-
-pub snoc_cases : {X : Type 0} (xs : List X) (x y : X) → Contains (xs ++ x ∷ []) y
-    → (y ≡ x) ⊎ Contains xs y
-snoc_cases xs x y c = elim (Contains-append_cases xs (x ∷ []) y c) [
-  | inl a ↦ inr a
-  | inr b ↦ elim (Contains-cons_cases x [] y b) [
-    | inl e ↦ inl e
-    | inr n ↦ absurd (not_Contains-nil y n)
-  ]
-]
 
 -- what follows from a success
 pub if_ok : {T E : Type 0} (r : Result T E) (P Q : T → Type 0) → ((t : T) → P t → Q t) → IfOk r P

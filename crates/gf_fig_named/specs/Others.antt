@@ -4,12 +4,14 @@ use Rattle.std.specs.Prelude.{◌≡◌, ◌↔◌, ◌⊎◌, ◌<◌, ℕ, Lis
 use Rattle.std.specs.List.Sorted.{IsStrictlySortedBy}
 use Rattle.gf_shape.specs.declared.any_shape.AnyShape.{AnyShape}
 use Rattle.gf_ops.specs.declared.op.Op.{Op}
+use Rattle.gf_ops.specs.declared.op.ObjectId.{ObjectId}
 use Rattle.gf_ops.specs.declared.op.OpId.{OpId}
 use Rattle.gf_ops.specs.OperationOrder.{id_cmp}
 use Rattle.gf_ops.specs.Version.{IsMember}
 use Rattle.gf_versions.specs.declared.key.VersionKey.{VersionKey}
 use Rattle.gf_versions.specs.declared.placed.Placed.{Placed}
 use Rattle.gf_names.specs.Telling.{AreTelling}
+use Rattle.gf_table.specs.Standing.{positions_of}
 use Rattle.gf_fig_named.specs.declared.naming.Lead.{Lead}
 use Rattle.gf_fig_named.specs.declared.naming.Name.{Name}
 
@@ -34,6 +36,27 @@ pub record IsElsewhere (items : List (Placed AnyShape)) (key : VersionKey)
 -- the others are the ids of the items of the same object that the version with this key lacks
 abbrev pub AreElsewhere : List (Placed AnyShape) → VersionKey → List OpId → Type 0
 AreElsewhere items key others = (i : OpId) → Contains others i ↔ IsElsewhere items key i
+
+-- the item at one of these places has the id i, and is of the object of this key, which lacks it
+pub record IsLackedAmong (items : List (Placed AnyShape)) (places : List ℕ) (key : VersionKey)
+    (i : OpId) : Type 0 where
+  pub place : ℕ
+  pub listed : Contains places place
+  pub item : Placed AnyShape
+  pub at : item ≡ slice_index_or items place item
+  pub lacked : IsLackedOf key item.key i
+
+-- the ids are those of the items at these places that the version with this key lacks
+abbrev pub AreLackedAmong : List (Placed AnyShape) → List ℕ → VersionKey → List OpId → Type 0
+AreLackedAmong items places key ids = (i : OpId) → Contains ids i
+    ↔ IsLackedAmong items places key i
+
+-- the table has for each object places before n, and for each item before n its own place
+pub record ArePlaces (items : List (Placed AnyShape)) (n : ℕ)
+    (table : List (ObjectId × List ℕ)) : Type 0 where
+  pub within : (o : ObjectId) (k : ℕ) → Contains (positions_of table o) k → k < n
+  pub each : (k : ℕ) (i : Placed AnyShape) → k < n → i ≡ slice_index_or items k i
+      → Contains (positions_of table i.key.object) k
 
 -- the rising ids are those of the items of its object that the item at this index lacks
 pub record AreLackedAt (items : List (Placed AnyShape)) (index : ℕ)

@@ -1,23 +1,25 @@
 //! Names of visible versions.
 
-ghost use Rattle.std.specs.Prelude.{◌≡◌, ◌↔◌, ◌⊎◌, ◌<◌, ◌≤◌, Contains, IfOk, IsTrue, OnOk, length};
-ghost use Rattle.std.specs.Prelude.{slice_index_or};
+ghost use Rattle.std.specs.Prelude.{◌≡◌, ◌↔◌, ◌⊎◌, ◌<◌, ◌≤◌, ℕ, Contains, IfOk, IsTrue, OnOk};
+ghost use Rattle.std.specs.Prelude.{length};
 ghost use Rattle.std.specs.List.{AllZip};
 ghost use Rattle.std.specs.List.Sorted.{IsStrictlySortedBy};
 ghost use Rattle.gf_ops.specs.OperationOrder.{id_cmp};
 ghost use Rattle.gf_ops.specs.declared.op.OpId.{OpId};
 ghost use Rattle.gf_versions.specs.Ranking.{AreRanked};
 ghost use Rattle.gf_fig_named.specs.NamedText.{IsNameOf};
-ghost use Rattle.gf_fig_named.specs.Others.{AreElsewhere, AreLackedAt, AreOfOne, AreOthers};
-ghost use Rattle.gf_fig_named.specs.Others.{AreRising};
+ghost use Rattle.gf_fig_named.specs.Others.{AreLackedAmong, AreLackedAt, AreOfOne, AreOthers};
+ghost use Rattle.gf_fig_named.specs.Others.{ArePlaces, AreRising};
 ghost use Rattle.gf_fig_named.specs.Others.{IsLackedOf, IsLead, IsNameAmong};
 
 use gf_base::OutOfMemory;
 use gf_names::{push_lacking, rising, telling};
 use gf_ops::{History, Ids, ObjectId, OpId};
 use gf_shape::AnyShape;
+use gf_table::{Positions, positions_at, push_position};
 use gf_versions::{Placed, VersionKey};
 use std::alloc::Global;
+use std::collections::BTreeMap;
 
 /// What a figure is called: its object, and the operations that tell its version from the other
 /// visible ones of the object.
@@ -36,7 +38,8 @@ struct Lead {
 }
 
 /// A name for each of the visible versions, in their order. Versions of one object that follow each
-/// other are compared with the first of them. This one is compared with all of its object.
+/// other are compared with the first of them. This one is compared with all of its object, which
+/// are found by the object.
 pub fn names_of(
     alloc: Global,
     history: &History,
@@ -47,13 +50,14 @@ pub fn names_of(
         AllZip (IsNameOf history.now.ops items.now) items.now names.items) }
 {
     history.recall_valid();
+    let places = places_of(alloc, items)?;
     let mut names = Vec::new(alloc);
     let mut lead = Lead {
         first: 0,
         lacked: Ids::new(Vec::new(alloc)),
     };
     for index in 0..items.len() {
-        lead = lead_of(alloc, items, index, lead)?;
+        lead = lead_of(alloc, items, &places, index, lead)?;
         let ids = items[lead.first].key.ops.as_slice();
         names.push(name_of(
             alloc,
@@ -66,14 +70,30 @@ pub fn names_of(
     Ok(names)
 }
 
+/// For each object the places of its items.
+fn places_of(
+    alloc: Global,
+    items: &[Placed<AnyShape>],
+) -> Result<BTreeMap<ObjectId, Positions>, OutOfMemory>
+    ensures { IfOk result (λ places. ArePlaces items.now (length items.now) places.entries) }
+{
+    let mut places = BTreeMap::new(alloc);
+    for (place, item) in items.iter().enumerate() {
+        push_position(alloc, &mut places, item.key.object, place)?;
+    }
+    Ok(places)
+}
+
 /// What leads the item at this index: the one before, if it is of the same object, or the item.
 fn lead_of(
     alloc: Global,
     items: &[Placed<AnyShape>],
+    places: &BTreeMap<ObjectId, Positions>,
     index: usize,
     before: Lead,
 ) -> Result<Lead, OutOfMemory>
     requires rising { AreRising items.now }
+    requires places { ArePlaces items.now (length items.now) places.now.entries }
     requires within { index < length items.now }
     requires before { 1 ≤ index → IsLead items.now before }
     ensures lead { IfOk result (IsLead items.now) }
@@ -82,7 +102,7 @@ fn lead_of(
     if 0 < index && is_same(items[before.first].key.object, items[index].key.object) {
         return Ok(before);
     }
-    let lacked = lacked_ids(alloc, items, index)?;
+    let lacked = lacked_ids(alloc, items, places, index)?;
     Ok(Lead {
         first: index,
         lacked,
@@ -95,35 +115,41 @@ fn is_same(object: ObjectId, other: ObjectId) -> bool
     object == other
 }
 
-/// The ids of the other items of its object that the item at this index lacks.
-fn lacked_ids(alloc: Global, items: &[Placed<AnyShape>], index: usize) -> Result<Ids, OutOfMemory>
+/// The ids of the items of its object that the item at this index lacks.
+fn lacked_ids(
+    alloc: Global,
+    items: &[Placed<AnyShape>],
+    places: &BTreeMap<ObjectId, Positions>,
+    index: usize,
+) -> Result<Ids, OutOfMemory>
     requires rising { AreRising items.now }
+    requires places { ArePlaces items.now (length items.now) places.now.entries }
     requires within { index < length items.now }
     ensures { IfOk result (AreLackedAt items.now index) }
 {
-    let found = elsewhere(alloc, items, index, &items[index])?;
+    let key = &items[index].key;
+    let found = lacked_among(alloc, items, positions_at(places, key.object), key)?;
     rising(alloc, &found)
 }
 
-/// The same, maybe more than once each.
-fn elsewhere(
+/// The ids of the items at these places that a version of their object lacks, maybe more than once
+/// each.
+fn lacked_among(
     alloc: Global,
     items: &[Placed<AnyShape>],
-    index: usize,
-    item: &Placed<AnyShape>,
+    places: &[usize],
+    key: &VersionKey,
 ) -> Result<Vec<OpId>, OutOfMemory>
     requires rising { AreRising items.now }
-    requires within { index < length items.now }
-    requires at { item.now ≡ slice_index_or items.now index item.now }
-    ensures { IfOk result (λ others. AreElsewhere items.now item.now.key others.items) }
+    requires within { (k : ℕ) → Contains places.now k → k < length items.now }
+    requires key { IsStrictlySortedBy id_cmp key.now.ops }
+    ensures { IfOk result (λ ids. AreLackedAmong items.now places.now key.now ids.items) }
 {
-    let mut others = Vec::new(alloc);
-    for (place, other) in items.iter().enumerate() {
-        if place != index {
-            push_lacked(&mut others, &other.key, &item.key)?;
-        }
+    let mut ids = Vec::new(alloc);
+    for place in places {
+        push_lacked(&mut ids, &items[*place].key, key)?;
     }
-    Ok(others)
+    Ok(ids)
 }
 
 /// Appends the ids of one version that another one of the same object lacks.

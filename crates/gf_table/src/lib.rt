@@ -3,6 +3,8 @@
 //!
 //! - [`GroupTable`]: the positions by object, for those who keep a history beside it.
 //! - [`IndexedHistory`]: a history with its table, seen as the list of its operations.
+//! - [`Positions`], [`push_position`], [`positions_at`]: how the positions of another list are kept
+//!   by object.
 #![tactic(auto)]
 
 mod indexed;
@@ -10,4 +12,5 @@ mod positions;
 mod table;
 
 pub use indexed::IndexedHistory;
-pub use table::GroupTable;
+pub use positions::Positions;
+pub use table::{GroupTable, positions_at, push_position};

@@ -1,4 +1,4 @@
-//! The positions of the operations on one object.
+//! The positions of what is of one object.
 
 ghost use Rattle.std.specs.Prelude.{◌≡◌, ◌++◌, ◌∷◌, [], IfOk, OnErr, OnOk};
 
@@ -6,9 +6,9 @@ use gf_base::OutOfMemory;
 use std::alloc::Global;
 use std::marker::Model;
 
-/// Positions in a history, seen as their list.
+/// Positions in a list, seen as their list.
 #[derive(Drop)]
-pub(crate) struct Positions {
+pub struct Positions {
     positions: Vec<usize>,
 }
 
@@ -22,7 +22,7 @@ impl Model for Positions {
 
 impl Positions {
     /// No positions.
-    pub(crate) fn new(alloc: Global) -> Positions
+    pub fn new(alloc: Global) -> Positions
         ensures { result ≡ [] }
     {
         Positions {
@@ -31,7 +31,7 @@ impl Positions {
     }
 
     /// A copy of the positions.
-    pub(crate) fn copy(&self, alloc: Global) -> Result<Positions, OutOfMemory>
+    pub fn copy(&self, alloc: Global) -> Result<Positions, OutOfMemory>
         ensures { IfOk result (λ copy. copy ≡ self.now) }
     {
         Ok(Positions {
@@ -40,7 +40,7 @@ impl Positions {
     }
 
     /// Appends a position.
-    pub(crate) fn push(&mut self, position: usize) -> Result<(), OutOfMemory>
+    pub fn push(&mut self, position: usize) -> Result<(), OutOfMemory>
         ensures ok { OnOk result (self.new ≡ self.old ++ position ∷ []) }
         ensures err { OnErr result (self.new ≡ self.old) }
     {
@@ -49,7 +49,7 @@ impl Positions {
     }
 
     /// The positions in their order.
-    pub(crate) fn as_slice(&self) -> &[usize]
+    pub fn as_slice(&self) -> &[usize]
         ensures { result.now ≡ self.now }
     {
         &self.positions

@@ -64,22 +64,29 @@ impl GroupTable {
         ensures err { OnErr result (self.new ≡ self.old) }
     {
         let position = history.ops().len();
-        push_to(self.alloc, &mut self.objects, op.object(), position)
+        push_position(self.alloc, &mut self.objects, op.object(), position)
     }
 
     /// The positions of the operations on an object, rising; none where there is no operation.
     pub fn positions(&self, object: ObjectId) -> &[usize]
         ensures { result.now ≡ positions_of self.now object }
     {
-        match self.objects.get(&object) {
-            Some(positions) => positions.as_slice(),
-            None => &[],
-        }
+        positions_at(&self.objects, object)
+    }
+}
+
+/// The positions of an object in their order; none where nothing was pushed.
+pub fn positions_at(objects: &BTreeMap<ObjectId, Positions>, object: ObjectId) -> &[usize]
+    ensures { result.now ≡ positions_of objects.now.entries object }
+{
+    match objects.get(&object) {
+        Some(positions) => positions.as_slice(),
+        None => &[],
     }
 }
 
 /// Appends a position to those of an object.
-fn push_to(
+pub fn push_position(
     alloc: Global,
     objects: &mut BTreeMap<ObjectId, Positions>,
     object: ObjectId,

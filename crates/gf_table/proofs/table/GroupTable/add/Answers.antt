@@ -8,7 +8,7 @@ pub returns-clause-ok : goal.returns-clause-ok
 returns-clause-ok c =
     let h = c.args.history.now.ops in
     let a = c.args.op.now in
-    on_ok_weaker c.push_to.result (λ puts.
+    on_ok_weaker c.push_position.result (λ puts.
     stands_after h a (length c.ops-position.result.now) (ap length c.ops-position.ensures.ops)
-    c.object.result c.object.ensures c.self.inside.objects.entries c.push_to.new.objects.entries
-    (subst (StandsFor h) (sym c.self.view_is) c.requires.stands) puts) c.push_to.ensures.ok
+    c.object.result c.object.ensures c.self.inside.objects.entries c.push_position.new.objects.entries
+    (subst (StandsFor h) (sym c.self.view_is) c.requires.stands) puts) c.push_position.ensures.ok

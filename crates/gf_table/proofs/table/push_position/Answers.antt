@@ -4,7 +4,7 @@ use Rattle.std.specs.Prelude.{Some}
 use Rattle.std.proofs.lemmas.Map.Steps.{set_value_same}
 use Rattle.std.proofs.lemmas.Result.{on_err_weaker}
 use Rattle.gf_table.specs.Positions.{object_cmp}
-use Rattle.gf_table.proofs.table.push_to.Goals as goal
+use Rattle.gf_table.proofs.table.push_position.Goals as goal
 
 pub returns-in-Some-clause-err : goal.returns-in-Some-clause-err
 returns-in-Some-clause-err c =
