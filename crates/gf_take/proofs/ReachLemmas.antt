@@ -10,6 +10,7 @@ use Rattle.std.proofs.lemmas.List.{take_more}
 use Rattle.std.proofs.lemmas.List.Elements.{Contains-append_left, Contains-get_or, Contains-push}
 use Rattle.std.proofs.lemmas.List.Elements.{Contains-push_cases}
 use Rattle.gf_base.proofs.FilterLemmas.{Contains-filter}
+use Rattle.gf_base.proofs.ListLemmas.{not_Contains-nil}
 use Rattle.gf_ops.specs.declared.op.Op.{Op}
 use Rattle.gf_ops.specs.declared.op.Clock.{Clock}
 use Rattle.gf_ops.specs.Accepted.{AreAccepted, IsAccepted}
@@ -252,3 +253,13 @@ eight P a b c d e f g h p q r u v w x y (suc (suc (suc (suc (suc (suc zero))))))
 eight P a b c d e f g h p q r u v w x y (suc (suc (suc (suc (suc (suc (suc zero))))))) i = x
 eight P a b c d e f g h p q r u v w x y (suc (suc (suc (suc (suc (suc (suc (suc zero)))))))) i = y
 eight P a b c d e f g h p q r u v w x y t i = let l = i.0 in let m = i.1 in absurd (omega arith)
+
+-- of no operations nothing is reached
+pub nothing_reached : (s : ℕ) (c : Clock)
+    → AreReached s c [] (record { 0 = 0 ∷ 0 ∷ 0 ∷ 0 ∷ 0 ∷ 0 ∷ 0 ∷ 0 ∷ [] })
+nothing_reached s c =
+    eight (λ t n. IsReach s c t [] n) 0 0 0 0 0 0 0 0 (none 1) (none 2) (none 3) (none 4) (none 5)
+    (none 6) (none 7) (none 8)
+  where
+    none : (t : ℕ) → IsReach s c t [] 0
+    none t = record { most = λ x m. absurd (not_Contains-nil x m); least = inl refl }

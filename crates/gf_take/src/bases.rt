@@ -1,10 +1,10 @@
 //! The base of a site: what a designer saw, all that the site made, and what these know.
 
-ghost use Rattle.std.specs.Prelude.{◌≡◌, [], IfOk, IsTrue};
-ghost use Rattle.gf_ops.specs.OperationOrder.{IsSite};
+ghost use Rattle.std.specs.Prelude.{◌≡◌, [], ℕ, IfOk, IsTrue, max};
+ghost use Rattle.gf_ops.specs.OperationOrder.{IsSite, entry};
 ghost use Rattle.gf_ops.specs.ValidHistory.{IsValid};
 ghost use Rattle.gf_take.specs.Bases.{IsBase};
-ghost use Rattle.gf_take.specs.Reaching.{AreReached, IsReach, is_counted, is_seen, reach_at};
+ghost use Rattle.gf_take.specs.Reaching.{AreReached, is_counted, is_seen, reach_at};
 
 use gf_base::OutOfMemory;
 use gf_ops::{Clock, History, Op};
@@ -12,7 +12,7 @@ use gf_site::Site;
 use std::alloc::Global;
 
 /// A site that has the base of a history: the operations that the clock counts, those of the site,
-/// and all that these know. Nothing waits there. The call takes eight passes over the history, and
+/// and all that these know. Nothing waits there. The call takes two passes over the history, and
 /// adds each operation of the base.
 pub fn base_site(
     alloc: Global,
@@ -41,8 +41,8 @@ pub fn base_site(
 pub fn is_whole_base(site: u8, history: &History, seen: &Clock) -> bool
     ensures { IsTrue result → IsBase site seen.now history.now.ops history.now.ops }
 {
-    // The clauses of `ops` say that the history is accepted and valid.
-    let _ = history.ops();
+    history.recall_valid();
+    history.recall_accepted();
     for of in 1..9 {
         if of != site && seen.entry(of) < history.count(of) {
             return false;
@@ -57,31 +57,38 @@ pub fn reach(site: u8, seen: &Clock, ops: &[Op]) -> Clock
     requires { IsValid ops.now }
     ensures { AreReached site seen.now ops.now result }
 {
-    Clock([
-        reach_of(site, seen, ops, 1),
-        reach_of(site, seen, ops, 2),
-        reach_of(site, seen, ops, 3),
-        reach_of(site, seen, ops, 4),
-        reach_of(site, seen, ops, 5),
-        reach_of(site, seen, ops, 6),
-        reach_of(site, seen, ops, 7),
-        reach_of(site, seen, ops, 8),
-    ])
-}
-
-/// The greatest number of one site that the operations reach that another one saw.
-fn reach_of(site: u8, seen: &Clock, ops: &[Op], of: u8) -> u32
-    requires of { IsSite of }
-    requires valid { IsValid ops.now }
-    ensures { IsReach site seen.now of ops.now result }
-{
-    let mut reach = 0;
+    let mut reach = Clock([0; 8]);
     for op in ops {
         if is_seen(site, seen, op) {
-            reach = reach_at(of, op).max(reach);
+            reach = raised(&reach, op);
         }
     }
     reach
+}
+
+/// A clock that counts what another one counts, and all up to this operation and what this knows.
+fn raised(clock: &Clock, op: &Op) -> Clock
+    ensures { (t : ℕ) → IsSite t → entry result t
+        ≡ max (reach_at t op.now) (entry clock.now t) }
+{
+    Clock([
+        raised_at(1, clock, op),
+        raised_at(2, clock, op),
+        raised_at(3, clock, op),
+        raised_at(4, clock, op),
+        raised_at(5, clock, op),
+        raised_at(6, clock, op),
+        raised_at(7, clock, op),
+        raised_at(8, clock, op),
+    ])
+}
+
+/// How many operations of one site such a clock counts.
+fn raised_at(of: u8, clock: &Clock, op: &Op) -> u32
+    requires { IsSite of }
+    ensures { result ≡ max (reach_at of op.now) (entry clock.now of) }
+{
+    reach_at(of, op).max(clock.entry(of))
 }
 
 /// Whether a site saw the operation: the clock counts it, or it is of the site.
