@@ -3,7 +3,8 @@
 use gf_base::OutOfMemory;
 use gf_names::{rising, telling};
 use gf_ops::{History, Ids, OpId};
-use gf_versions::Version;
+use gf_shape::AnyShape;
+use gf_versions::{Placed, VersionKey};
 use std::alloc::Global;
 
 /// The greatest number of operations in an aim.
@@ -14,16 +15,16 @@ pub(crate) const MOST_AIMED: usize = 1_000;
 pub(crate) fn told_from(
     alloc: Global,
     history: &History,
-    versions: &[Version],
-    version: &Version,
+    versions: &[Placed<AnyShape>],
+    key: &VersionKey,
 ) -> Result<Ids, OutOfMemory> {
     let mut others = Vec::new(alloc);
     for other in versions {
-        if other.key.object == version.key.object && other.key.ops != version.key.ops {
+        if other.key.object == key.object && other.key.ops != key.ops {
             others.extend_from_slice(other.key.ops.as_slice())?;
         }
     }
-    telling(alloc, history, version.key.ops.as_slice(), &others)
+    telling(alloc, history, key.ops.as_slice(), &others)
 }
 
 /// The aim that no version of an object has but this one: what tells it from all operations on the
@@ -31,15 +32,15 @@ pub(crate) fn told_from(
 pub(crate) fn aim_to_keep(
     alloc: Global,
     history: &History,
-    version: &Version,
+    key: &VersionKey,
 ) -> Result<Ids, OutOfMemory> {
     let mut others = Vec::new(alloc);
     for op in history.ops() {
-        if op.object() == version.key.object {
+        if op.object() == key.object {
             others.push(op.id)?;
         }
     }
-    let told = telling(alloc, history, version.key.ops.as_slice(), &others)?;
+    let told = telling(alloc, history, key.ops.as_slice(), &others)?;
     aim_at(alloc, history, told.as_slice())
 }
 

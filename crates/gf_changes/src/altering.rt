@@ -3,11 +3,11 @@
 use crate::Target;
 use crate::aiming::{MOST_AIMED, aim_at, aim_to_keep, fewest, has_all, told_from};
 use crate::comparing::{moved, points_from, size_of};
-use crate::matching::Matching;
+use crate::matching::{Candidate, Matching};
 use gf_base::OutOfMemory;
 use gf_ops::{Attr, Change, Form, History, Ids, ObjectId, OpId, Start, Value};
-use gf_shape::Point;
-use gf_versions::Version;
+use gf_shape::{AnyShape, Point};
+use gf_versions::Placed;
 use std::alloc::Global;
 
 /// The changes by which the versions of a history that are figures look like these, and those that
@@ -15,13 +15,13 @@ use std::alloc::Global;
 pub fn alterations(
     alloc: Global,
     history: &History,
-    versions: &[Version],
+    versions: &[Placed<AnyShape>],
     targets: &[Target],
     matching: &Matching,
 ) -> Result<Vec<Change>, OutOfMemory> {
     let mut changes = Vec::new(alloc);
     for attribute in [Attr::Place, Attr::Size, Attr::Points, Attr::Colour] {
-        let wishes = wishes_of(alloc, attribute, versions, targets, matching)?;
+        let wishes = wishes_of(alloc, attribute, targets, matching)?;
         change_all(alloc, history, versions, wishes, &mut changes)?;
     }
     hide_all(alloc, history, versions, matching, &mut changes)?;
@@ -32,13 +32,12 @@ pub fn alterations(
 fn wishes_of(
     alloc: Global,
     attribute: Attr,
-    versions: &[Version],
     targets: &[Target],
     matching: &Matching,
 ) -> Result<Vec<Option<Value>>, OutOfMemory> {
-    let mut wishes = Vec::with_capacity(alloc, versions.len())?;
-    for (version, figure) in versions.iter().zip(matching.figures.iter()) {
-        match figure_at(targets, *figure) {
+    let mut wishes = Vec::with_capacity(alloc, matching.candidates.len())?;
+    for version in matching.candidates.iter() {
+        match figure_at(targets, version.figure) {
             Some(start) => wishes.push(wish_of(alloc, attribute, version, start)?)?,
             None => wishes.push(None)?,
         }
@@ -59,30 +58,40 @@ fn figure_at(targets: &[Target], index: Option<usize>) -> Option<&Start> {
 fn wish_of(
     alloc: Global,
     attribute: Attr,
-    version: &Version,
-    start: &Start,
+    version: &Candidate,
+    new: &Start,
 ) -> Result<Option<Value>, OutOfMemory> {
-    let place = place_of(version, start);
+    let old = &version.start;
     match attribute {
-        Attr::Place if place == Some(version.place) => Ok(None),
-        Attr::Place => Ok(place.map(Value::Place)),
-        Attr::Size if version.form == start.form => Ok(None),
-        Attr::Size => Ok(size_of(&start.form)),
-        Attr::Points if place.is_some() => Ok(None),
-        Attr::Points => points_from(alloc, version.place, start),
-        Attr::Colour if version.colour == start.colour => Ok(None),
-        Attr::Colour => Ok(Some(Value::Colour(start.colour))),
+        Attr::Place if old.place == new.place => Ok(None),
+        Attr::Place => Ok(place_of(version, new).map(Value::Place)),
+        Attr::Size if old.form == new.form => Ok(None),
+        Attr::Size => Ok(size_of(&new.form)),
+        Attr::Points => points_of(alloc, version, new),
+        Attr::Colour if old.colour == new.colour => Ok(None),
+        Attr::Colour => Ok(Some(Value::Colour(new.colour))),
         Attr::Layer | Attr::Shown => Ok(None),
     }
 }
 
-/// Where a version stands that looks like its figure; None for a polygon that wants other points.
-fn place_of(version: &Version, start: &Start) -> Option<Point> {
-    match (&version.form, &start.form) {
-        (Form::Polygon(old), Form::Polygon(new)) => moved(old, version.place, new, start.place),
-        (Form::Rect(..) | Form::Polygon(_) | Form::Circle(_) | Form::Ellipse(..), _) => {
-            Some(start.place)
-        }
+/// Where a version is settled that looks like its figure; None for a polygon that wants other
+/// points.
+fn place_of(version: &Candidate, new: &Start) -> Option<Point> {
+    match &new.form {
+        Form::Polygon(_) => moved(&version.start, new, version.settled?),
+        Form::Rect(..) | Form::Circle(_) | Form::Ellipse(..) => Some(new.place),
+    }
+}
+
+/// The points that a version wants, where it is a polygon that was not moved whole.
+fn points_of(
+    alloc: Global,
+    version: &Candidate,
+    new: &Start,
+) -> Result<Option<Value>, OutOfMemory> {
+    match version.settled {
+        Some(settled) if place_of(version, new).is_none() => points_from(alloc, settled, new),
+        _ => Ok(None),
     }
 }
 
@@ -91,7 +100,7 @@ fn place_of(version: &Version, start: &Start) -> Option<Point> {
 pub(crate) fn change_all(
     alloc: Global,
     history: &History,
-    versions: &[Version],
+    versions: &[Placed<AnyShape>],
     mut wishes: Vec<Option<Value>>,
     changes: &mut Vec<Change>,
 ) -> Result<(), OutOfMemory> {
@@ -110,7 +119,7 @@ pub(crate) fn change_all(
 fn told_by(
     alloc: Global,
     history: &History,
-    versions: &[Version],
+    versions: &[Placed<AnyShape>],
     wishes: &[Option<Value>],
     index: usize,
 ) -> Result<Option<Vec<OpId>>, OutOfMemory> {
@@ -118,14 +127,14 @@ fn told_by(
         return Ok(None);
     };
     let others = others_of(alloc, versions, wishes, version.key.object, value)?;
-    let told = told_from(alloc, history, versions, version)?;
+    let told = told_from(alloc, history, versions, &version.key)?;
     Ok(Some(fewest(alloc, &told, &others)?))
 }
 
 /// The operations of each version of an object that doesn't want this value.
 fn others_of<'a>(
     alloc: Global,
-    versions: &'a [Version],
+    versions: &'a [Placed<AnyShape>],
     wishes: &[Option<Value>],
     object: ObjectId,
     value: &Value,
@@ -150,7 +159,7 @@ fn wants(wish: &Option<Value>, value: &Value) -> bool {
 /// Changes a version to what it wants, with all of its object that want the same and have these
 /// operations. None of these wants it any more.
 fn change_one(
-    versions: &[Version],
+    versions: &[Placed<AnyShape>],
     wishes: &mut [Option<Value>],
     index: usize,
     ids: &[OpId],
@@ -178,14 +187,14 @@ fn change_one(
 fn hide_all(
     alloc: Global,
     history: &History,
-    versions: &[Version],
+    versions: &[Placed<AnyShape>],
     matching: &Matching,
     changes: &mut Vec<Change>,
 ) -> Result<(), OutOfMemory> {
     let mut hidden: Vec<ObjectId> = Vec::new(alloc);
-    for (version, figure) in versions.iter().zip(matching.figures.iter()) {
+    for (version, candidate) in versions.iter().zip(matching.candidates.iter()) {
         let object = version.key.object;
-        if figure.is_none() && !hidden.contains(&object) {
+        if candidate.figure.is_none() && !hidden.contains(&object) {
             hidden.push(object)?;
             hide_of(alloc, history, versions, matching, object, changes)?;
         }
@@ -198,16 +207,16 @@ fn hide_all(
 fn hide_of(
     alloc: Global,
     history: &History,
-    versions: &[Version],
+    versions: &[Placed<AnyShape>],
     matching: &Matching,
     object: ObjectId,
     changes: &mut Vec<Change>,
 ) -> Result<(), OutOfMemory> {
     let mut whole = Vec::new(alloc);
     whole.push(shown(object, false, Ids::new(Vec::new(alloc))))?;
-    for (version, figure) in versions.iter().zip(matching.figures.iter()) {
-        if version.key.object == object && figure.is_some() {
-            let aim = aim_to_keep(alloc, history, version)?;
+    for (version, candidate) in versions.iter().zip(matching.candidates.iter()) {
+        if version.key.object == object && candidate.figure.is_some() {
+            let aim = aim_to_keep(alloc, history, &version.key)?;
             if MOST_AIMED < aim.as_slice().len() {
                 return hide_each(alloc, history, versions, matching, object, changes);
             }
@@ -222,14 +231,14 @@ fn hide_of(
 fn hide_each(
     alloc: Global,
     history: &History,
-    versions: &[Version],
+    versions: &[Placed<AnyShape>],
     matching: &Matching,
     object: ObjectId,
     changes: &mut Vec<Change>,
 ) -> Result<(), OutOfMemory> {
     let mut wishes = Vec::with_capacity(alloc, versions.len())?;
-    for (version, figure) in versions.iter().zip(matching.figures.iter()) {
-        if version.key.object == object && figure.is_none() {
+    for (version, candidate) in versions.iter().zip(matching.candidates.iter()) {
+        if version.key.object == object && candidate.figure.is_none() {
             wishes.push(Some(Value::Shown(false)))?;
         } else {
             wishes.push(None)?;

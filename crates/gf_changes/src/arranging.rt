@@ -5,9 +5,11 @@ use crate::aiming::has_all;
 use crate::altering::change_all;
 use crate::matching::Matching;
 use crate::ordering::{Look, OrderRow, Spot, Staying, layers_of};
+use crate::ranks::{Rank, ranks_by_object, ranks_of};
 use gf_base::OutOfMemory;
 use gf_ops::{Change, History, Start, Value};
-use gf_versions::Version;
+use gf_shape::AnyShape;
+use gf_versions::{Placed, VersionKey};
 use std::alloc::Global;
 
 /// The changes by which a history comes to show the figures in their order, the new ones among
@@ -15,8 +17,8 @@ use std::alloc::Global;
 pub fn arranged(
     alloc: Global,
     history: &History,
-    before: &[Version],
-    versions: &[Version],
+    before: &[Placed<AnyShape>],
+    versions: &[Placed<AnyShape>],
     targets: &[Target],
     matching: &Matching,
 ) -> Result<Vec<Change>, OutOfMemory> {
@@ -32,7 +34,7 @@ pub fn arranged(
 /// these versions.
 fn layers_for(
     alloc: Global,
-    versions: &[Version],
+    versions: &[Placed<AnyShape>],
     targets: &[Target],
     followers: &[Option<usize>],
 ) -> Result<Vec<u16>, OutOfMemory> {
@@ -44,7 +46,7 @@ fn layers_for(
 fn layer_changes(
     alloc: Global,
     history: &History,
-    versions: &[Version],
+    versions: &[Placed<AnyShape>],
     followers: &[Option<usize>],
     layers: &[u16],
 ) -> Result<Vec<Change>, OutOfMemory> {
@@ -81,42 +83,56 @@ fn creation(alloc: Global, start: &Start, layer: u16) -> Result<Change, OutOfMem
 /// Which version of the new list each figure is: the one that has all operations of the old one.
 fn followed(
     alloc: Global,
-    before: &[Version],
-    versions: &[Version],
+    before: &[Placed<AnyShape>],
+    versions: &[Placed<AnyShape>],
     matching: &Matching,
 ) -> Result<Vec<Option<usize>>, OutOfMemory> {
+    let ranks = ranks_by_object(alloc, versions)?;
     let mut followers = Vec::with_capacity(alloc, matching.versions.len())?;
     for version in matching.versions.iter() {
-        followers.push(follower(before, *version, versions))?;
+        followers.push(follower(before, *version, versions, &ranks))?;
     }
     Ok(followers)
 }
 
 /// The version of the new list that has all operations of an old one. Most keep their indices.
-fn follower(before: &[Version], index: Option<usize>, versions: &[Version]) -> Option<usize> {
+fn follower(
+    before: &[Placed<AnyShape>],
+    index: Option<usize>,
+    versions: &[Placed<AnyShape>],
+    ranks: &[Rank],
+) -> Option<usize> {
     let index = index?;
-    let old = before.get(index)?;
-    match versions.get(index) {
-        Some(new) if follows(new, old) => return Some(index),
-        _ => {}
+    let old = &before.get(index)?.key;
+    if is_follower(versions, index, old) {
+        return Some(index);
     }
-    for (place, new) in versions.iter().enumerate() {
-        if follows(new, old) {
-            return Some(place);
+    for rank in ranks_of(ranks, old.object) {
+        if is_follower(versions, rank.index, old) {
+            return Some(rank.index);
         }
     }
     None
 }
 
+/// Whether the version at an index has all operations of another one of its object.
+fn is_follower(versions: &[Placed<AnyShape>], index: usize, old: &VersionKey) -> bool {
+    match versions.get(index) {
+        Some(new) => follows(&new.key, old),
+        None => false,
+    }
+}
+
 /// Whether a version has all operations of another one of its object.
-fn follows(new: &Version, old: &Version) -> bool {
-    new.key.object == old.key.object && has_all(new.key.ops.as_slice(), old.key.ops.as_slice())
+fn follows(new: &VersionKey, old: &VersionKey) -> bool {
+    new.object == old.object
+        && (new.ops == old.ops || has_all(new.ops.as_slice(), old.ops.as_slice()))
 }
 
 /// What the order of each figure depends on.
 fn rows_of(
     alloc: Global,
-    versions: &[Version],
+    versions: &[Placed<AnyShape>],
     targets: &[Target],
     followers: &[Option<usize>],
 ) -> Result<Vec<OrderRow>, OutOfMemory> {
@@ -128,7 +144,7 @@ fn rows_of(
 }
 
 /// What the order of a figure depends on, which may be the version of this rank.
-fn row_of(figure: &Target, rank: Option<usize>, versions: &[Version]) -> OrderRow {
+fn row_of(figure: &Target, rank: Option<usize>, versions: &[Placed<AnyShape>]) -> OrderRow {
     let spot = spot_at(versions, rank);
     OrderRow {
         look: Look {
@@ -141,7 +157,7 @@ fn row_of(figure: &Target, rank: Option<usize>, versions: &[Version]) -> OrderRo
 }
 
 /// Where the version of a rank stands.
-fn spot_at(versions: &[Version], rank: Option<usize>) -> Option<Spot> {
+fn spot_at(versions: &[Placed<AnyShape>], rank: Option<usize>) -> Option<Spot> {
     match versions.get(rank?) {
         Some(version) => Some(Spot {
             layer: version.key.layer,
@@ -163,7 +179,7 @@ fn staying_of(figure: &Target, is_version: bool) -> Staying {
 /// What layer each version wants, where its figure got another one.
 fn layer_wishes(
     alloc: Global,
-    versions: &[Version],
+    versions: &[Placed<AnyShape>],
     followers: &[Option<usize>],
     layers: &[u16],
 ) -> Result<Vec<Option<Value>>, OutOfMemory> {
@@ -180,7 +196,12 @@ fn layer_wishes(
 }
 
 /// Has the version of a rank want this layer, where it is in another one.
-fn wish_layer(wishes: &mut [Option<Value>], versions: &[Version], rank: usize, layer: u16) {
+fn wish_layer(
+    wishes: &mut [Option<Value>],
+    versions: &[Placed<AnyShape>],
+    rank: usize,
+    layer: u16,
+) {
     if let (Some(wish), Some(version)) = (wishes.get_mut(rank), versions.get(rank)) {
         if version.key.layer != layer {
             *wish = Some(Value::Layer(layer));

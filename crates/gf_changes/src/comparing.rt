@@ -1,4 +1,5 @@
-//! How a figure differs from a version.
+//! How a figure differs from a version. The version is given by the start of an object that looks
+//! like it.
 
 use gf_base::OutOfMemory;
 use gf_ops::{Form, Points, Start, Value, is_near};
@@ -8,21 +9,6 @@ use std::alloc::Global;
 
 /// The most points of a polygon.
 const MOST_POINTS: usize = 64;
-
-/// In which attributes a figure differs from a version of its kind.
-#[derive(Clone, Copy, PartialEq, Eq)]
-pub(crate) struct Comparison {
-    pub(crate) place: bool,
-    pub(crate) form: bool,
-    pub(crate) colour: bool,
-}
-
-impl Comparison {
-    /// How many attributes differ.
-    pub(crate) fn count(self) -> usize {
-        usize::from(self.place) + usize::from(self.form) + usize::from(self.colour)
-    }
-}
 
 /// The kinds of forms.
 #[derive(Clone, Copy, PartialEq, Eq)]
@@ -42,65 +28,55 @@ fn kind_of(form: &Form) -> FormKind {
     }
 }
 
-/// In which attributes a figure differs from a version; None where the figure is of another kind.
-/// A polygon that was moved whole differs in its place alone, wherever its first point lies.
-pub(crate) fn compared(version: &Version, start: &Start) -> Option<Comparison> {
-    if kind_of(&version.form) != kind_of(&start.form) {
+/// Whether a form is a polygon.
+pub(crate) fn is_polygon(form: &Form) -> bool {
+    kind_of(form) == FormKind::Polygon
+}
+
+/// In how many attributes a figure differs from a version; None where the figure is of another
+/// kind. A polygon with other points differs in its place or in its points, and never in both.
+pub(crate) fn differences(old: &Start, new: &Start) -> Option<usize> {
+    if kind_of(&old.form) != kind_of(&new.form) {
         return None;
     }
-    let colour = version.colour != start.colour;
-    let (Form::Polygon(old), Form::Polygon(new)) = (&version.form, &start.form) else {
-        return Some(Comparison {
-            place: version.place != start.place,
-            form: version.form != start.form,
-            colour,
-        });
-    };
-    match moved(old, version.place, new, start.place) {
-        Some(at) => Some(Comparison {
-            place: at != version.place,
-            form: false,
-            colour,
-        }),
-        None if are_near_from(version.place, new, start.place) => Some(Comparison {
-            place: false,
-            form: true,
-            colour,
-        }),
-        None => None,
-    }
-}
-
-/// Where a polygon stands that was moved whole, so that it has the new points: its new place. None
-/// where no step leads from its points to the new ones, or the place is beyond its limit.
-pub(crate) fn moved(old: &Points, place: Point, new: &Points, start: Point) -> Option<Point> {
-    let (old, new) = (old.as_slice(), new.as_slice());
-    let at = minus(plus(*new.first()?, start)?, *old.first()?)?;
-    if old.len() == new.len() && are_moved(old, at, new, start) && is_near(at) {
-        Some(at)
+    let shape = if is_polygon(&new.form) {
+        usize::from(has_other_points(old, new))
     } else {
-        None
-    }
+        usize::from(old.place != new.place) + usize::from(old.form != new.form)
+    };
+    Some(shape + usize::from(old.colour != new.colour))
 }
 
-/// Whether points that are seen from one place are the new ones, seen from another.
-fn are_moved(old: &[Point], at: Point, new: &[Point], start: Point) -> bool {
-    for (p, q) in old.iter().zip(new.iter()) {
-        match (plus(*p, at), plus(*q, start)) {
-            (Some(p), Some(q)) if p == q => {}
-            _ => return false,
-        }
-    }
-    true
+/// Whether a figure of a version's kind is a polygon with other points.
+pub(crate) fn has_other_points(old: &Start, new: &Start) -> bool {
+    is_polygon(&new.form) && (old.place != new.place || old.form != new.form)
 }
 
-/// Whether the new points of a polygon keep their limits, seen from another place.
-fn are_near_from(place: Point, points: &Points, start: Point) -> bool {
+/// Whether a polygon that is settled at a place can get the points of a figure within the limits.
+pub(crate) fn can_get_points(old: &Start, new: &Start, settled: Point) -> bool {
+    moved(old, new, settled).is_some() || are_near_from(settled, new)
+}
+
+/// Where a polygon is settled that was moved whole, so that it has the points of a figure. None
+/// where no step leads from its points to the new ones, or the place is beyond its limit.
+pub(crate) fn moved(old: &Start, new: &Start, settled: Point) -> Option<Point> {
+    if old.form != new.form {
+        return None;
+    }
+    let at = plus(settled, minus(new.place, old.place)?)?;
+    if is_near(at) { Some(at) } else { None }
+}
+
+/// Whether the points of a figure keep their limits, seen from a place.
+fn are_near_from(place: Point, start: &Start) -> bool {
+    let Form::Polygon(points) = &start.form else {
+        return false;
+    };
     if MOST_POINTS < points.as_slice().len() {
         return false;
     }
     for p in points.as_slice() {
-        match seen_from(place, *p, start) {
+        match seen_from(place, *p, start.place) {
             Some(p) if is_near(p) => {}
             _ => return false,
         }
@@ -108,8 +84,8 @@ fn are_near_from(place: Point, points: &Points, start: Point) -> bool {
     true
 }
 
-/// The value by which a polygon gets new points, seen from the place where it stands. None where
-/// one lies too far off.
+/// The value by which a polygon gets the points of a figure, seen from the place where it is
+/// settled. None where one lies too far off.
 pub(crate) fn points_from(
     alloc: Global,
     place: Point,
@@ -141,6 +117,38 @@ pub(crate) fn size_of(form: &Form) -> Option<Value> {
         Form::Ellipse(rx, ry) => Some(Value::Size(*rx, *ry)),
         Form::Polygon(_) => None,
     }
+}
+
+/// Whether a version, which may be hidden, looks like a figure.
+pub(crate) fn is_alike(version: &Version, start: &Start) -> bool {
+    version.colour == start.colour && has_same_shape(version, start)
+}
+
+/// Whether a version has the form of a figure at its place.
+fn has_same_shape(version: &Version, start: &Start) -> bool {
+    match (&version.form, &start.form) {
+        (Form::Polygon(old), Form::Polygon(new)) => {
+            are_same_points(old, version.place, new, start.place)
+        }
+        (Form::Rect(..) | Form::Polygon(_) | Form::Circle(_) | Form::Ellipse(..), _) => {
+            version.place == start.place && version.form == start.form
+        }
+    }
+}
+
+/// Whether points that are seen from one place are others that are seen from another place.
+fn are_same_points(old: &Points, place: Point, new: &Points, start: Point) -> bool {
+    let (old, new) = (old.as_slice(), new.as_slice());
+    if old.len() != new.len() {
+        return false;
+    }
+    for (p, q) in old.iter().zip(new.iter()) {
+        match (plus(*p, place), plus(*q, start)) {
+            (Some(p), Some(q)) if p == q => {}
+            _ => return false,
+        }
+    }
+    true
 }
 
 fn plus(p: Point, q: Point) -> Option<Point> {

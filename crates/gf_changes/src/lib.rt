@@ -3,10 +3,9 @@
 //!
 //! - [`Target`], [`targets`]: the figures that are to be shown, from the front to the back, each
 //!   with its name, if it has one.
-//! - [`versions_of`]: the versions that are shown.
-//! - [`matched`]: which version each figure is, as a [`Matching`]; [`first_beyond`]: the first
-//!   figure that comes to be something beyond the limits of operations.
-//! - [`object_not_shown`]: the hidden object that a figure names; [`showing_again`]: the change
+//! - [`matched`]: which of the versions that are shown each figure is, as a [`Matching`];
+//!   [`first_beyond`]: the first figure that comes to be something beyond the limits of operations.
+//! - [`objects_not_shown`]: the hidden objects that figures name; [`showing_again`]: the change
 //!   that shows a hidden version which looks like the figure; [`has_change`]: whether the change is
 //!   there already.
 //! - [`alterations`]: the changes of versions to what their figures are, and those that hide
@@ -20,6 +19,7 @@ mod arranging;
 mod comparing;
 mod matching;
 mod ordering;
+mod ranks;
 mod restoring;
 mod settled;
 mod target;
@@ -27,6 +27,5 @@ mod target;
 pub use altering::alterations;
 pub use arranging::arranged;
 pub use matching::{Matching, first_beyond, matched};
-pub use restoring::{has_change, object_not_shown, showing_again};
-pub use settled::versions_of;
+pub use restoring::{has_change, objects_not_shown, showing_again};
 pub use target::{Target, targets};

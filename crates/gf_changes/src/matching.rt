@@ -1,28 +1,46 @@
 //! Which version each figure is.
 
+ghost use Rattle.gf_versions.specs.Ranking.{AreRanked};
+
 use crate::Target;
 use crate::aiming::has_all;
-use crate::comparing::compared;
+use crate::comparing::{can_get_points, differences, has_other_points, is_polygon};
+use crate::settled::{settled_place, start_like};
 use gf_base::OutOfMemory;
 use gf_fig_named::Named;
-use gf_ops::{Clock, Form, OpId};
-use gf_versions::Version;
+use gf_ops::{Clock, History, OpId, Start};
+use gf_shape::{AnyShape, Point};
+use gf_versions::{Placed, VersionKey};
 use std::alloc::Global;
 
 /// Which version each figure is, and which figure each version is, by their indices in both lists.
 #[derive(Drop)]
 pub struct Matching {
-    pub versions: Vec<Option<usize>>,
-    pub figures: Vec<Option<usize>>,
+    pub(crate) versions: Vec<Option<usize>>,
+    pub(crate) candidates: Vec<Candidate>,
+    /// Each version before this index is matched.
+    first: usize,
+}
+
+/// A version that may be a figure.
+#[derive(Drop)]
+pub(crate) struct Candidate {
+    /// What an object begins with that looks like the version.
+    pub(crate) start: Start,
+    /// Where the version is settled, once a figure has asked for this.
+    pub(crate) settled: Option<Point>,
+    /// The index of the figure that the version is.
+    pub(crate) figure: Option<usize>,
 }
 
 /// How the figures of a drawing and versions may be one.
-#[derive(Clone, Copy, PartialEq, Eq)]
+#[derive(Clone, Copy)]
 enum Way {
     /// The figure has the name of the version.
     Named,
-    /// Nothing differs, or little, and the object was made since the drawing was written.
-    Alike,
+    /// Nothing differs, or little, and the object was made since the drawing was written, which
+    /// knew so many operations.
+    Alike(Clock),
 }
 
 /// One round over the figures: how a pair may be one, and in how many attributes it differs.
@@ -36,71 +54,93 @@ struct Round {
 /// the figure has, then those that look like it. The pair that differs in fewest attributes goes
 /// first, then the figure in front, then the version above.
 ///
-/// `seen` counts the operations that the drawing knew.
+/// `seen` counts the operations that the drawing knew. Only a polygon that may get other points is
+/// settled.
 pub fn matched(
     alloc: Global,
-    versions: &[Version],
+    history: &History,
+    versions: &[Placed<AnyShape>],
     targets: &[Target],
     seen: &Clock,
-) -> Result<Matching, OutOfMemory> {
-    let mut matching = Matching {
-        versions: unmatched(alloc, targets.len())?,
-        figures: unmatched(alloc, versions.len())?,
-    };
-    for way in [Way::Named, Way::Alike] {
+) -> Result<Matching, OutOfMemory>
+    requires { AreRanked history.now.ops versions.now }
+{
+    let mut matching = unmatched(alloc, versions, targets.len())?;
+    for way in [Way::Named, Way::Alike(*seen)] {
         for count in 0..=3 {
-            match_all(&mut matching, versions, targets, seen, Round { way, count });
+            let round = Round { way, count };
+            match_all(alloc, history, versions, targets, &mut matching, round)?;
         }
     }
     Ok(matching)
 }
 
-/// A list of so many entries, none of which is matched.
-fn unmatched(alloc: Global, count: usize) -> Result<Vec<Option<usize>>, OutOfMemory> {
-    let mut entries = Vec::with_capacity(alloc, count)?;
+/// Versions and so many figures, none of which is matched.
+fn unmatched(
+    alloc: Global,
+    versions: &[Placed<AnyShape>],
+    count: usize,
+) -> Result<Matching, OutOfMemory> {
+    let mut figures = Vec::with_capacity(alloc, count)?;
     for _ in 0..count {
-        entries.push(None)?;
+        figures.push(None)?;
     }
-    Ok(entries)
+    let mut candidates = Vec::with_capacity(alloc, versions.len())?;
+    for version in versions {
+        candidates.push(Candidate {
+            start: start_like(alloc, version)?,
+            settled: None,
+            figure: None,
+        })?;
+    }
+    Ok(Matching {
+        versions: figures,
+        candidates,
+        first: 0,
+    })
 }
 
 /// Matches what may be one in this round.
 fn match_all(
-    matching: &mut Matching,
-    versions: &[Version],
+    alloc: Global,
+    history: &History,
+    versions: &[Placed<AnyShape>],
     targets: &[Target],
-    seen: &Clock,
+    matching: &mut Matching,
     round: Round,
-) {
-    // Each version before this index is matched.
-    let mut first = 0;
+) -> Result<(), OutOfMemory>
+    requires { AreRanked history.now.ops versions.now }
+{
     for (f, figure) in targets.iter().enumerate() {
         if is_free(&matching.versions, f) {
-            if let Some(v) = match_of(&matching.figures, versions, figure, seen, round, first) {
+            if let Some(v) = match_of(alloc, history, versions, figure, matching, round)? {
                 matching.pair(f, v);
-                if v == first {
-                    first = v.saturating_add(1);
-                }
             }
         }
     }
+    Ok(())
 }
 
-/// The index of the first free version, from one on, that a figure may be in this round.
+/// The index of the first free version that a figure may be in this round.
 fn match_of(
-    figures: &[Option<usize>],
-    versions: &[Version],
+    alloc: Global,
+    history: &History,
+    versions: &[Placed<AnyShape>],
     figure: &Target,
-    seen: &Clock,
+    matching: &mut Matching,
     round: Round,
-    first: usize,
-) -> Option<usize> {
-    for (v, version) in versions.iter().enumerate().skip(first) {
-        if is_free(figures, v) && may_match(version, figure, seen, round) {
-            return Some(v);
+) -> Result<Option<usize>, OutOfMemory>
+    requires { AreRanked history.now.ops versions.now }
+{
+    for v in matching.first..versions.len() {
+        if matching.may_match(versions, v, figure, round) {
+            matching.settle_for(alloc, history, versions, v, figure)?;
+            if matching.can_become(v, figure) {
+                return Ok(Some(v));
+            }
         }
     }
-    None
+    Ok(None)
 }
 
 /// The index in file order of the first figure that comes to be something beyond the limits of
@@ -117,58 +157,104 @@ pub fn first_beyond(targets: &[Target], matching: &Matching) -> Option<usize> {
     first
 }
 
-fn is_polygon(form: &Form) -> bool {
-    match form {
-        Form::Polygon(_) => true,
-        Form::Rect(..) | Form::Circle(_) | Form::Ellipse(..) => false,
-    }
-}
-
 /// Whether the entry of a list is there and matched with nothing.
 fn is_free(entries: &[Option<usize>], index: usize) -> bool {
     matches!(entries.get(index), Some(None))
 }
 
 impl Matching {
+    /// Whether a figure may be the version at an index in this round, if its limits allow this.
+    fn may_match(
+        &self,
+        versions: &[Placed<AnyShape>],
+        index: usize,
+        figure: &Target,
+        round: Round,
+    ) -> bool {
+        match (versions.get(index), self.candidates.get(index)) {
+            (Some(version), Some(candidate)) => {
+                candidate.figure.is_none()
+                    && is_in_way(&version.key, figure, round)
+                    && differences(&candidate.start, &figure.start) == Some(round.count)
+            }
+            (None, _) | (Some(_), None) => false,
+        }
+    }
+
+    /// Finds where the version at an index is settled, the first time that a figure asks for this.
+    fn settle_for(
+        &mut self,
+        alloc: Global,
+        history: &History,
+        versions: &[Placed<AnyShape>],
+        index: usize,
+        figure: &Target,
+    ) -> Result<(), OutOfMemory>
+        requires { AreRanked history.now.ops versions.now }
+    {
+        let Some(candidate) = self.candidates.get_mut(index) else {
+            return Ok(());
+        };
+        if candidate.settled.is_none() && has_other_points(&candidate.start, &figure.start) {
+            candidate.settled = settled_place(alloc, history, versions, index)?;
+        }
+        Ok(())
+    }
+
+    /// Whether the version at an index can become a figure of its kind within the limits.
+    fn can_become(&self, index: usize, figure: &Target) -> bool {
+        match self.candidates.get(index) {
+            Some(candidate) => candidate.can_become(&figure.start),
+            None => false,
+        }
+    }
+
     /// Matches a figure and a version.
     fn pair(&mut self, figure: usize, version: usize) {
         if let Some(entry) = self.versions.get_mut(figure) {
             *entry = Some(version);
         }
-        if let Some(entry) = self.figures.get_mut(version) {
-            *entry = Some(figure);
+        if let Some(candidate) = self.candidates.get_mut(version) {
+            candidate.figure = Some(figure);
+        }
+        if version == self.first {
+            self.first = version.saturating_add(1);
         }
     }
 }
 
-/// Whether a figure may be a version in this round.
-fn may_match(version: &Version, figure: &Target, seen: &Clock, round: Round) -> bool {
-    let may = match round.way {
+impl Candidate {
+    /// Whether the version can become a figure of its kind within the limits.
+    fn can_become(&self, new: &Start) -> bool {
+        if !has_other_points(&self.start, new) {
+            return true;
+        }
+        match self.settled {
+            Some(settled) => can_get_points(&self.start, new, settled),
+            None => false,
+        }
+    }
+}
+
+/// Whether a figure may be a version in the way of a round.
+fn is_in_way(key: &VersionKey, figure: &Target, round: Round) -> bool {
+    match round.way {
         Way::Named => match &figure.name {
-            Some(name) => is_named(version, name),
+            Some(name) => is_named(key, name),
             None => false,
         },
-        Way::Alike => {
-            round.count == 0 || round.count <= 2 && is_newer(version.key.object.0, seen)
+        Way::Alike(seen) => {
+            round.count == 0 || round.count <= 2 && is_newer(key.object.0, &seen)
         }
-    };
-    if !may {
-        return false;
-    }
-    match compared(version, &figure.start) {
-        Some(comparison) => comparison.count() == round.count,
-        None => false,
     }
 }
 
 /// Whether a name may be that of a version.
-pub(crate) fn is_named(version: &Version, name: &Named) -> bool {
-    version.key.object == name.name.object
-        && has_all(version.key.ops.as_slice(), name.name.telling.as_slice())
+pub(crate) fn is_named(key: &VersionKey, name: &Named) -> bool {
+    key.object == name.name.object && has_all(key.ops.as_slice(), name.name.telling.as_slice())
 }
 
 /// Whether a clock does not count the operation of this id.
 fn is_newer(id: OpId, seen: &Clock) -> bool {
-    let index = usize::from(id.site).saturating_sub(1);
-    seen.0.get(index).copied().unwrap_or(0) < id.seq
+    seen.entry(id.site) < id.seq
 }

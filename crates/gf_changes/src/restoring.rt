@@ -3,24 +3,46 @@
 use crate::Target;
 use crate::aiming::{MOST_AIMED, aim_to_keep};
 use crate::altering::shown;
-use crate::comparing::compared;
+use crate::comparing::is_alike;
 use crate::matching::is_named;
+use crate::ranks::{Rank, ranks_by_object, ranks_of};
 use gf_base::OutOfMemory;
 use gf_ops::{Change, History, ObjectId};
-use gf_versions::Version;
+use gf_shape::AnyShape;
+use gf_versions::{Placed, Version};
 use std::alloc::Global;
 
-/// The object that a figure names, where none of these versions, which are shown, has the name.
-pub fn object_not_shown(shown: &[Version], figure: &Target) -> Option<ObjectId> {
+/// The object that each figure names, where none of these versions, which are shown, has the name.
+pub fn objects_not_shown(
+    alloc: Global,
+    shown: &[Placed<AnyShape>],
+    targets: &[Target],
+) -> Result<Vec<Option<ObjectId>>, OutOfMemory> {
+    let ranks = ranks_by_object(alloc, shown)?;
+    let mut objects = Vec::with_capacity(alloc, targets.len())?;
+    for figure in targets {
+        objects.push(object_not_shown(shown, &ranks, figure))?;
+    }
+    Ok(objects)
+}
+
+/// The object that a figure names, where no version that is shown has the name.
+fn object_not_shown(
+    shown: &[Placed<AnyShape>],
+    ranks: &[Rank],
+    figure: &Target,
+) -> Option<ObjectId> {
     let Some(named) = &figure.name else {
         return None;
     };
-    for version in shown {
-        if is_named(version, named) {
-            return None;
+    let object = named.name.object;
+    for rank in ranks_of(ranks, object) {
+        match shown.get(rank.index) {
+            Some(version) if is_named(&version.key, named) => return None,
+            Some(_) | None => {}
         }
     }
-    Some(named.name.object)
+    Some(object)
 }
 
 /// The change that shows a version again: the first hidden one of these, which are of one object,
@@ -33,7 +55,7 @@ pub fn showing_again(
 ) -> Result<Option<Change>, OutOfMemory> {
     for version in versions {
         if is_hidden_alike(version, figure) {
-            let aim = aim_to_keep(alloc, history, version)?;
+            let aim = aim_to_keep(alloc, history, &version.key)?;
             if MOST_AIMED < aim.as_slice().len() {
                 return Ok(None);
             }
@@ -48,13 +70,7 @@ fn is_hidden_alike(version: &Version, figure: &Target) -> bool {
     let Some(named) = &figure.name else {
         return false;
     };
-    if version.shown || !is_named(version, named) {
-        return false;
-    }
-    match compared(version, &figure.start) {
-        Some(comparison) => comparison.count() == 0,
-        None => false,
-    }
+    !version.shown && is_named(&version.key, named) && is_alike(version, &figure.start)
 }
 
 /// Whether these changes have one already that is of the same object with the same aim.

@@ -1,29 +1,45 @@
-//! The versions that are shown, with the values of their attributes.
+//! What versions look like, and where they are settled.
 
 ghost use Rattle.gf_versions.specs.Ranking.{AreRanked};
 
 use gf_base::OutOfMemory;
 use gf_groups::Group;
-use gf_ops::History;
-use gf_shape::AnyShape;
-use gf_versions::{Placed, Version, settle};
+use gf_objects::{form_of, place_of};
+use gf_ops::{History, Start};
+use gf_shape::{AnyShape, Point, Shape};
+use gf_versions::{Placed, settle};
 use std::alloc::Global;
 
-/// The versions that stand at these places.
-pub fn versions_of(
+/// What an object begins with that looks like a version. The points of a polygon are seen from the
+/// first one, wherever the version is settled.
+pub(crate) fn start_like(alloc: Global, item: &Placed<AnyShape>) -> Result<Start, OutOfMemory> {
+    let outline = item.shape.outline(alloc)?;
+    Ok(Start {
+        form: form_of(alloc, &outline)?,
+        place: place_of(&outline),
+        colour: item.colour,
+        layer: item.key.layer,
+        shown: true,
+    })
+}
+
+/// The settled place of the version at an index, if there is one. The call reads all operations of
+/// the version.
+pub(crate) fn settled_place(
     alloc: Global,
     history: &History,
-    items: &[Placed<AnyShape>],
-) -> Result<Vec<Version>, OutOfMemory>
-    requires { AreRanked history.now.ops items.now }
+    versions: &[Placed<AnyShape>],
+    index: usize,
+) -> Result<Option<Point>, OutOfMemory>
+    requires { AreRanked history.now.ops versions.now }
 {
-    let mut versions = Vec::with_capacity(alloc, items.len())?;
-    for item in items {
-        let group = Group {
-            object: item.key.object,
-            ops: item.key.ops.copy(alloc)?,
-        };
-        versions.push(settle(alloc, history, &group)?)?;
-    }
-    Ok(versions)
+    let Some(item) = versions.get(index) else {
+        return Ok(None);
+    };
+    let group = Group {
+        object: item.key.object,
+        ops: item.key.ops.copy(alloc)?,
+    };
+    let version = settle(alloc, history, &group)?;
+    Ok(Some(version.place))
 }

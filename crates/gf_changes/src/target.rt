@@ -7,9 +7,10 @@ use gf_ops::Start;
 use gf_shape::{Bounds, Outline, Shape};
 use std::alloc::Global;
 
-/// A figure that is to be shown: what an object of it begins with, and its name, if it has one.
+/// A figure that is to be shown, and its name, if it has one.
 #[derive(Drop)]
 pub struct Target {
+    /// What an object of the figure begins with. The points of a polygon are seen from the first.
     pub start: Start,
     /// Whether an object can begin so, within the limits of operations.
     pub is_within: bool,

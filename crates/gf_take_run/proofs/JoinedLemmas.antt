@@ -1,35 +1,16 @@
--- Operations that are accepted behind a history, one after the other, and behind its base.
-use Rattle.std.proofs.Common.{◌≡◌, ℕ, ◌+◌, ◌-◌, ◌<◌, List, [], ◌∷◌, ◌++◌, get_or, length, refl, sym}
-use Rattle.std.proofs.Common.{◌∙◌, ap, arith, inl, inr, subst, take}
+-- The objects on which a history and its base differ.
+use Rattle.std.proofs.Common.{◌≡◌, ℕ, ◌+◌, ◌<◌, List, [], ◌∷◌, ◌++◌, get_or, length, sym, ◌∙◌}
+use Rattle.std.proofs.Common.{ap, inl, inr, subst, take}
 use Rattle.std.specs.Prelude.{◌⊎◌, Contains}
-use Rattle.std.proofs.Math.Seq.{take-append-add}
-use Rattle.std.proofs.lemmas.List.{get_or-append_right, length-append, take_more}
+use Rattle.std.proofs.lemmas.List.{take_more}
 use Rattle.std.proofs.lemmas.List.Elements.{Contains-append_cases, Contains-append_left}
 use Rattle.std.proofs.lemmas.List.Elements.{Contains-append_right, Contains-push_cases}
 use Rattle.gf_ops.specs.declared.op.Op.{Op}
 use Rattle.gf_ops.specs.declared.op.ObjectId.{ObjectId}
-use Rattle.gf_ops.specs.Accepted.{AreAccepted, IsAccepted}
 use Rattle.gf_ops.specs.Attribute.{object_of}
 use Rattle.gf_ops.specs.ValidHistory.{IsValid}
-use Rattle.gf_ops.proofs.AcceptedLemmas.{accepted_at}
 use Rattle.gf_ops.proofs.ValidityLemmas.{same_op}
 use Rattle.gf_kept.specs.SameOn.{HaveSameBut}
-
--- each of them is accepted behind those before it
-pub accepted_behind : (h new : List Op) → AreAccepted (h ++ new) → (k : ℕ) (a : Op)
-    → k < length new → a ≡ get_or new k a → IsAccepted (h ++ take k new) a
-accepted_behind h new run k a l is =
-    let size = length-append h new in
-    let at = accepted_at run (length h + k) a (omega arith) in
-    let back : (length h + k) - length h ≡ k = omega arith in
-    let item : get_or (h ++ new) (length h + k) a ≡ a =
-    get_or-append_right h new (length h) (length h + k) a refl (omega arith)
-    ∙ (ap (λ n. get_or new n a) back ∙ sym is) in
-    subst (λ x. IsAccepted (h ++ take k new) x) item
-    (subst (λ hs. IsAccepted hs (get_or (h ++ new) (length h + k) a)) (take-append-add h new k)
-    at.accepted)
-
--- ---- the objects on which a history and its base differ
 
 -- each of these operations is in the base, or its object is told
 abbrev pub AreToldApart : List Op → List ObjectId → List Op → Type 0

@@ -6,7 +6,6 @@ use Rattle.gf_ops.specs.declared.op.OpId.{OpId}
 use Rattle.gf_ops.specs.declared.op.Clock.{Clock}
 use Rattle.gf_ops.specs.declared.change.Change.{Change}
 use Rattle.gf_ops.specs.OperationOrder.{IsSite, count_of, entry}
-use Rattle.gf_json.specs.OperationLines.{denoted}
 use Rattle.gf_fig_named.specs.ThinPolygons.{AreThinOf}
 use Rattle.gf_fig_read.specs.Objects.{Drawn}
 use Rattle.gf_run.specs.declared.studio_error.StudioError.TheVariants as studio

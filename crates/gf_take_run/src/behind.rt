@@ -66,7 +66,7 @@ pub(crate) fn make_behind(
     let (whole, kept) = taker.into_parts();
     let base = with_kept(whole.history(), kept, base, &apart);
     let made = make_from(alloc, base, fig, drawn, request.after)?;
-    let mut site = joined(alloc, whole, made.site, &made.ops, &apart)?;
+    let mut site = joined(whole, made.site, &made.ops, &apart)?;
     let text = text_of_site(alloc, &mut site, request.named)?;
     Ok(MadeBehind {
         ops: made.ops,
@@ -112,7 +112,6 @@ fn with_kept(history: &History, kept: KeptVersions, site: Site, apart: &[ObjectI
 /// The whole site with the operations that were made behind its base. What is kept of the base with
 /// these is kept of it, but for the objects on which the two differ.
 fn joined(
-    alloc: Global,
     whole: Site,
     base: KeptSite,
     new: &[Op],
@@ -123,7 +122,8 @@ fn joined(
     requires same { HaveSameBut apart.now base.ops (whole.ops ++ new.now) }
     ensures { IfOk result (λ site. site.ops ≡ whole.ops ++ new.now) }
 {
-    let whole = with_ops(alloc, whole, new)?;
+    let mut whole = whole;
+    whole.add_all(new)?;
     let (base, kept) = base.into_parts();
     Ok(with_kept(base.history(), kept, whole, apart))
 }
@@ -153,18 +153,6 @@ fn shown_whole(alloc: Global, made: MadeFrom, named: bool) -> Result<MadeBehind,
         thin,
         text,
     })
-}
-
-/// A site with these operations behind its own.
-fn with_ops(alloc: Global, mut taker: Site, new: &[Op]) -> Result<Site, OutOfMemory>
-    requires in_range { (a : Op) → Contains new.now a → IsInRange a }
-    requires accepted { AreAccepted (taker.ops ++ new.now) }
-    ensures { IfOk result (λ site. site.ops ≡ taker.ops ++ new.now) }
-{
-    for op in new {
-        taker.add(op.copy(alloc)?)?;
-    }
-    Ok(taker)
 }
 
 /// The named text of a site, where it is asked for.

@@ -2,7 +2,7 @@
 //! of one site's new operations, which show what the text shows.
 //!
 //! - [`take_run`]: reads both, and writes the new operations, as a [`TakeRequest`] asks.
-//! - [`take_behind`]: the same behind the operations of a replica, which stays as it is.
+//! - [`take_behind`]: the same behind the operations of a replica.
 //! - [`Taken`]: what is told of them.
 //! - [`TakeRunError`]: why nothing is taken; [`BrokenLimit`]: the figure that no operation can
 //!   make.

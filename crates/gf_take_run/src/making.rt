@@ -45,8 +45,7 @@ pub(crate) fn make_from(
     ensures refused { IfErr result
         (RefusesBase base.number after base.ops fig.now drawn.now.drawing) }
 {
-    // The clauses of `history` say that the base is accepted and valid.
-    let _ = base.history();
+    base.recall_history();
     let shown = shown_by(alloc, &mut base)?;
     if looks_like(alloc, &shown.versions.items, &drawn.drawing)? {
         return Ok(MadeFrom {
@@ -95,8 +94,7 @@ fn make_other(
     if !shows(alloc, &shown.items, &drawn.drawing)? {
         return Err(DrawingError::Differs);
     }
-    // The clauses of `history` say that what was made is accepted and valid.
-    let _ = making.site.history();
+    making.site.recall_history();
     let Making { site, ops } = making;
     Ok(MadeFrom {
         site,

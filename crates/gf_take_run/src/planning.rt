@@ -19,8 +19,8 @@ use crate::reading::ReadDrawing;
 use crate::showing::listed;
 use gf_base::OutOfMemory;
 use gf_changes::{
-    Matching, Target, alterations, arranged, first_beyond, has_change, matched, object_not_shown,
-    showing_again, versions_of,
+    Matching, Target, alterations, arranged, first_beyond, has_change, matched, objects_not_shown,
+    showing_again,
 };
 use gf_fig_faults::seen_at;
 use gf_fig_read::object_line;
@@ -62,14 +62,12 @@ pub(crate) fn make_planned(
     ensures refused { (s : ℕ) (b : List Op) → IsMaking s b making.old
         → IfErr result (RefusesPlan s b fig.now drawn.now.drawing) }
 {
-    let before = versions_of(alloc, making.site.history(), shown)?;
-    let restored = restorations(alloc, &making.site, &before, &drawn.targets)?;
+    let restored = restorations(alloc, &making.site, shown, &drawn.targets)?;
     if restored.is_empty() {
-        return make_matched(alloc, making, fig, &before, drawn);
+        return make_matched(alloc, making, fig, shown, drawn);
     }
     let shown = make_more(alloc, making, restored)?;
-    let before = versions_of(alloc, making.site.history(), &shown.items)?;
-    let last = make_matched(alloc, making, fig, &before, drawn)?;
+    let last = make_matched(alloc, making, fig, &shown.items, drawn)?;
     Ok(Some(last.unwrap_or(shown)))
 }
 
@@ -79,9 +77,10 @@ fn make_matched(
     alloc: Global,
     making: &mut Making,
     fig: &[u8],
-    before: &[Version],
+    before: &[Placed<AnyShape>],
     drawn: &ReadDrawing,
 ) -> Result<Option<Ranked<AnyShape>>, DrawingError>
+    requires ranked { AreRanked making.old.site.ops before.now }
     requires drawn { DenotesDrawing fig.now drawn.now.drawing drawn.now.seen }
     ensures made { (s : ℕ) (b : List Op) → IsMaking s b making.old
         → IfOk result (λ last. IsMaking s b making.new) }
@@ -89,7 +88,13 @@ fn make_matched(
     ensures refused { (s : ℕ) (b : List Op) → IsMaking s b making.old
         → IfErr result (RefusesPlan s b fig.now drawn.now.drawing) }
 {
-    let matching = matched(alloc, before, &drawn.targets, &drawn.seen)?;
+    let matching = matched(
+        alloc,
+        making.site.history(),
+        before,
+        &drawn.targets,
+        &drawn.seen,
+    )?;
     if let Some(index) = first_beyond(&drawn.targets, &matching) {
         return Err(beyond(alloc, fig, &drawn.drawing, index));
     }
@@ -104,8 +109,14 @@ fn make_matched(
         return make_arranged(alloc, making, before, before, &drawn.targets, &matching);
     }
     let shown = make_more(alloc, making, altered)?;
-    let after = versions_of(alloc, making.site.history(), &shown.items)?;
-    let last = make_arranged(alloc, making, before, &after, &drawn.targets, &matching)?;
+    let last = make_arranged(
+        alloc,
+        making,
+        before,
+        &shown.items,
+        &drawn.targets,
+        &matching,
+    )?;
     Ok(Some(last.unwrap_or(shown)))
 }
 
@@ -114,8 +125,8 @@ fn make_matched(
 fn make_arranged(
     alloc: Global,
     making: &mut Making,
-    before: &[Version],
-    after: &[Version],
+    before: &[Placed<AnyShape>],
+    after: &[Placed<AnyShape>],
     targets: &[Target],
     matching: &Matching,
 ) -> Result<Option<Ranked<AnyShape>>, DrawingError>
@@ -233,13 +244,10 @@ fn broken_at(
 fn restorations(
     alloc: Global,
     base: &KeptSite,
-    shown: &[Version],
+    shown: &[Placed<AnyShape>],
     targets: &[Target],
 ) -> Result<Vec<Change>, OutOfMemory> {
-    let mut wanted = Vec::with_capacity(alloc, targets.len())?;
-    for figure in targets {
-        wanted.push(object_not_shown(shown, figure))?;
-    }
+    let wanted = objects_not_shown(alloc, shown, targets)?;
     let mut changes = Vec::new(alloc);
     let mut objects: Vec<ObjectId> = Vec::new(alloc);
     for object in wanted.iter() {

@@ -62,8 +62,7 @@ pub(crate) fn taker_of(alloc: Global, replica: Replica, site: u8) -> Result<Site
         → Divides known replica.ops replica.held → IfErr result (RefusesFigText q known fig) }
     ensures between { IfErr result (λ e. IfSome (of_take e) IsBetween) }
 {
-    // The clause of `history` says that each operation was accepted.
-    let _ = replica.history();
+    replica.recall_state();
     let taker = Site::with_replica(alloc, site, replica);
     match check_waiting(alloc, &taker) {
         Ok(()) => Ok(taker),

@@ -78,25 +78,24 @@ fn take_parts<T: Threads + Sync>(
 }
 
 /// What a site takes of a FIG text behind the operations of a replica, and the site with what it
-/// made. The replica stays as it is. What is kept of its history goes to the site.
+/// made. What is kept of the history of the replica goes to the site.
 pub fn take_behind(
     alloc: Global,
-    replica: &Replica,
+    replica: Replica,
     kept: &mut KeptVersions,
     fig: &[u8],
     request: TakeRequest,
 ) -> Result<TakenDrawing, TakeRunError>
     requires site { IsSite request.site }
-    requires keeps { Keeps replica.now.ops kept.old }
-    ensures keeps { Keeps replica.now.ops kept.new }
-    ensures ok { (known : List Op) → Divides known replica.now.ops replica.now.held
-        → IfOk result (λ t.
-        TakesBehind request known replica.now.ops fig.now t.ops.items t.answer) }
-    ensures site { IfOk result (λ t. t.site.ops ≡ replica.now.ops ++ t.ops.items) }
-    ensures refused { (known : List Op) → Divides known replica.now.ops replica.now.held
+    requires keeps { Keeps replica.ops kept.old }
+    ensures keeps { Keeps replica.ops kept.new }
+    ensures ok { (known : List Op) → Divides known replica.ops replica.held
+        → IfOk result (λ t. TakesBehind request known replica.ops fig.now t.ops.items t.answer) }
+    ensures site { IfOk result (λ t. t.site.ops ≡ replica.ops ++ t.ops.items) }
+    ensures refused { (known : List Op) → Divides known replica.ops replica.held
         → IfErr result (RefusesFigText request known fig.now) }
 {
-    let taker = taker_of(alloc, replica.copy(alloc)?, request.site)?;
+    let taker = taker_of(alloc, replica, request.site)?;
     let drawn = read_drawing(alloc, fig)?;
     let kept = mem::replace(kept, KeptVersions::new(alloc));
     let taker = KeptSite::new(taker, kept);

@@ -9,6 +9,7 @@ with_kept-requires-clause-same c =
     let apart = c.args.apart.now in
     let had : c.history.result.now.ops ≡ c.args.base.ops = c.history.ensures.ops
     ∙ ap (λ (x : SiteState). x.ops) c.into_parts-base.ensures.site in
-    subst (HaveSameBut apart c.history.result.now.ops) (sym c.in_ok-whole.ensures)
+    subst (HaveSameBut apart c.history.result.now.ops) (sym (ap (λ (x : SiteState). x.ops)
+    c.in_ok-add_all.ensures))
     (subst (λ (h : List Op). HaveSameBut apart h (c.args.whole.ops ++ c.args.new.now)) (sym had)
     c.requires.same)

@@ -21,9 +21,9 @@ returns-then-branch-clause-ok c =
     let b = c.args.base.ops in
     let listed = c.in_ok-shown.ensures.versions in
     let ranked = subst (AreRanked b) (sym c.deref.ensures.value) listed.ranked in
-    let like = c.in_ok-looks_like.ensures.alike b c.history.ensures.valid ranked c.if-branch.true in
+    let like = c.in_ok-looks_like.ensures.alike b c.recall_history.ensures.valid ranked c.if-branch.true in
     takes_nothing c.args.base.number c.args.after b c.args.fig.now c.args.drawn.now.drawing _
-    c.history.ensures.accepted c.history.ensures.valid like c.requires.drawn.reads
+    c.recall_history.ensures.accepted c.recall_history.ensures.valid like c.requires.drawn.reads
     c.new.ensures.items (ap (λ (s : SiteState). s.ops) c.in_ok-shown.ensures.same) listed
     c.in_ok-shown.ensures.thin
 

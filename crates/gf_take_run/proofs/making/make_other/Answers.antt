@@ -45,7 +45,7 @@ returns-clause-ok c =
     let listed = listed_last _ m c.in_ok-last.last c.args.shown.versions c.unwrap_or-shown.result
     c.in_ok-last.ensures.listed c.requires.listed c.unwrap_or-shown.ensures in
     let now = subst (AreRanked m.site.ops) (sym c.deref-8.ensures.value) listed.ranked in
-    let valid = c.history-2.ensures.valid in
+    let valid = c.recall_history.ensures.valid in
     let on = subst (AreRanked b) (sym c.deref-4.ensures.value) c.requires.listed.ranked in
     let may = subst (All (λ (a : Op). MayChange b fig a.change)) c.deref-3.ensures.value
     (c.in_ok-are_on_shown.ensures b on c.if-not-branch.false) in
@@ -60,6 +60,6 @@ returns-clause-ok c =
     let standing = subst (All (λ (a : Op). LeavesStanding b fig d a.change)) c.deref-7.ensures.value
     (c.in_ok-leave_standing.ensures b fig beside named c.requires.named c.if-not-branch-2.false) in
     makes_other s b fig d m _ (c.in_ok-last.ensures.made s b first) refl refl
-    c.history-2.ensures.accepted valid
+    c.recall_history.ensures.accepted valid
     (c.in_ok-shows.ensures.shows m.site.ops valid now c.if-not-branch-3.false)
     (c.in_ok-shows.ensures.paints m.site.ops valid now c.if-not-branch-3.false) may standing listed

@@ -8,7 +8,7 @@ pub returns-in-Ok-clause-ok : goal.returns-in-Ok-clause-ok
 returns-in-Ok-clause-ok c = λ known divided.
     let is = c.with_replica-taker.ensures in
     rw is (are_read c.args.site known c.args.replica divided
-    c.history.ensures.accepted (rw is at c.in-Ok.ensures.ok))
+    c.recall_state.ensures.accepted (rw is at c.in-Ok.ensures.ok))
 
 pub returns-in-Err-Waits-clause-refused : goal.returns-in-Err-Waits-clause-refused
 returns-in-Err-Waits-clause-refused c = λ q known fig same divided.

@@ -1,8 +1,6 @@
-use Rattle.std.proofs.Common.{◌≡◌, List, ap, refl, subst, sym, ◌∙◌}
+use Rattle.std.proofs.Common.{◌≡◌, List, ap, refl, subst}
 use Rattle.std.proofs.lemmas.Result.{err_from_is_err_and}
 use Rattle.gf_ops.specs.declared.op.Op.{Op}
-use Rattle.gf_replay.specs.Behind.{Divides}
-use Rattle.gf_site.specs.ReplicaState.{ReplicaState}
 use Rattle.gf_site.specs.SiteState.{SiteState}
 use Rattle.gf_take_run.specs.TakeSteps.{RefusesDrawing}
 use Rattle.gf_take_run.specs.TakenBehind.{TakesBehind, TakesSo}
@@ -11,45 +9,37 @@ use Rattle.gf_take_run.proofs.taking.take_behind.Goals as goal
 
 pub returns-in_err-taker-clause-refused : goal.returns-in_err-taker-clause-refused
 returns-in_err-taker-clause-refused c = λ known divided.
-    let p = err_from_is_err_and c.from_residual-in_err-taker.result
-    c.from_residual-in_err-taker.ensures.1 in
-    let copied = subst (λ (x : ReplicaState). Divides known x.ops x.held) (sym c.in_ok-copy.ensures)
-    divided in
-    rw (p.1, p.2) (c.in_err-taker.ensures.refused c.args.request known c.args.fig.now refl copied)
+    let p = err_from_is_err_and c.from_residual.result
+    c.from_residual.ensures.1 in
+    rw (p.1, p.2) (c.in_err-taker.ensures.refused c.args.request known c.args.fig.now refl divided)
 
 pub returns-in_err-drawn-clause-refused : goal.returns-in_err-drawn-clause-refused
 returns-in_err-drawn-clause-refused c = λ known divided.
     let p = err_from_is_err_and c.from_residual-in_err-drawn.result
     c.from_residual-in_err-drawn.ensures.1 in
-    let copied = subst (λ (x : ReplicaState). Divides known x.ops x.held) (sym c.in_ok-copy.ensures)
-    divided in
     rw (p.1, p.2) (c.in_err-drawn.ensures.refused c.args.request known c.in_ok-taker.taker.ops
-    (c.in_ok-taker.ensures.ok known copied))
+    (c.in_ok-taker.ensures.ok known divided))
 
 pub returns-in_err-take_drawing-clause-refused : goal.returns-in_err-take_drawing-clause-refused
 returns-in_err-take_drawing-clause-refused c = λ known divided.
     let p = err_from_is_err_and c.from_residual-in_err-take_drawing.result
     c.from_residual-in_err-take_drawing.ensures.1 in
-    let copied = subst (λ (x : ReplicaState). Divides known x.ops x.held) (sym c.in_ok-copy.ensures)
-    divided in
     let d = c.in_ok-drawn.drawn in
     let fault = c.in_err-take_drawing.field-0.0 in
     rw (p.1, p.2) (refused_behind c.args.request known c.args.fig.now c.in_ok-taker.taker.ops
-    (c.in_ok-taker.ensures.ok known copied) d.drawing d.seen c.in_ok-drawn.ensures.ok fault
+    (c.in_ok-taker.ensures.ok known divided) d.drawing d.seen c.in_ok-drawn.ensures.ok fault
     (subst (λ (x : SiteState). RefusesDrawing c.args.request x.ops c.args.fig.now d.drawing d.seen fault)
     c.new-taker.ensures c.in_err-take_drawing.ensures.refused))
 
 pub returns-clause-ok : goal.returns-clause-ok
 returns-clause-ok c = λ known divided.
-    let copied = subst (λ (x : ReplicaState). Divides known x.ops x.held) (sym c.in_ok-copy.ensures)
-    divided in
     let d = c.in_ok-drawn.drawn in
     let t = c.in_ok-take_drawing.field-0 in
     let taker = c.in_ok-taker.taker in
-    let same : taker.ops ≡ c.args.replica.now.ops = ap (λ (x : SiteState). x.ops)
-    c.in_ok-taker.ensures.same ∙ ap (λ (x : ReplicaState). x.ops) c.in_ok-copy.ensures in
+    let same : taker.ops ≡ c.args.replica.ops = ap (λ (x : SiteState). x.ops)
+    c.in_ok-taker.ensures.same in
     subst (λ (h : List Op). TakesBehind c.args.request known h c.args.fig.now t.ops.items t.answer) same
-    (taken_behind c.args.request known c.args.fig.now taker.ops (c.in_ok-taker.ensures.ok known copied)
+    (taken_behind c.args.request known c.args.fig.now taker.ops (c.in_ok-taker.ensures.ok known divided)
     d.drawing d.seen c.in_ok-drawn.ensures.ok t.ops.items t.answer
     (subst (λ (x : SiteState). TakesSo c.args.request x.ops c.args.fig.now d.drawing d.seen t.ops.items
     t.answer) c.new-taker.ensures c.in_ok-take_drawing.ensures.ok))
