@@ -7,8 +7,8 @@ use Rattle.std.proofs.lemmas.List.{take_more}
 use Rattle.std.proofs.lemmas.List.Elements.{Contains-append_right, Contains-get_or}
 use Rattle.gf_ops.specs.Accepted.{AreAccepted, next as accepted_next}
 use Rattle.gf_ops.specs.ValidHistory.{IsValid}
+use Rattle.gf_site.proofs.GrowthLemmas.{accepted_behind}
 use Rattle.gf_site.proofs.ValidLemmas.{valid_push}
-use Rattle.gf_take_run.proofs.JoinedLemmas.{accepted_behind}
 use Rattle.gf_ops.specs.declared.op.Op.{Op}
 use Rattle.gf_causal.specs.HeldOperations.{AreHeld}
 use Rattle.gf_drawing.specs.declared.compiling.CompileFault.{CompileFault}

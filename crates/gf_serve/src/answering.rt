@@ -13,7 +13,9 @@ ghost use Rattle.gf_serve.specs.declared.request.Request.TheVariants as request;
 
 use crate::kept::Kept;
 use crate::request::TakeText;
+use crate::two_replicas::TwoReplicas;
 use crate::{Arrival, Refusal, Reply};
+use gf_base::OutOfMemory;
 use gf_json::Notation;
 use gf_ops::Op;
 use gf_replay::read_behind;
@@ -30,26 +32,26 @@ use std::thread::Threads;
 pub(crate) fn lines<R: Threads + Sync>(
     rt: &R,
     alloc: Global,
-    replica: &mut Replica,
+    replicas: &mut TwoReplicas,
     kept: &mut Kept,
     text: Vec<u8>,
     workers: u8,
 ) -> Reply
     requires workers { (1 ≤ workers) × (workers ≤ 16) }
-    requires keeps { KeepsBoth replica.old.ops kept.old }
-    ensures keeps { KeepsBoth replica.new.ops kept.new }
-    ensures answers { (known : List Op) → HasDelivered known replica.old
-        → AnswersNext known (request.Lines text) result replica.new }
+    requires keeps { KeepsBoth replicas.old.ops kept.old }
+    ensures keeps { KeepsBoth replicas.new.ops kept.new }
+    ensures answers { (known : List Op) → HasDelivered known replicas.old
+        → AnswersNext known (request.Lines text) result replicas.new }
 {
-    let Ok(copy) = replica.copy(alloc) else {
+    let Ok(copy) = replicas.copy(alloc) else {
         return Reply::Refused(Refusal::Run(StudioError::OutOfMemory));
     };
     match read_behind(rt, alloc, copy, text, workers) {
-        Ok(next) => match arrival(replica, &next) {
+        Ok(next) => match arrival(replicas.newest(), &next) {
             Some(came) => {
-                let had = replica.history().ops().len();
-                *replica = next;
-                kept.forget_behind(alloc, replica.history(), had);
+                let had = replicas.newest().history().ops().len();
+                replicas.replace(next);
+                kept.forget_behind(alloc, replicas.newest().history(), had);
                 Reply::Lines(came)
             }
             None => Reply::Refused(Refusal::Run(StudioError::OutOfMemory)),
@@ -65,9 +67,8 @@ fn arrival(old: &Replica, new: &Replica) -> Option<Arrival>
     ensures waiting { IfSome result (λ came. came.waiting ≡ length new.now.held) }
     ensures valid { AreHeld old.now.held × AreHeld new.now.held }
 {
-    // The clauses of `held` say that the held ids rise.
-    let _ = old.held();
-    let _ = new.held();
+    old.recall_state();
+    new.recall_state();
     let before = count(old)?;
     let after = count(new)?;
     match after.checked_sub(before) {
@@ -86,26 +87,31 @@ fn count(replica: &Replica) -> Option<usize>
     replica.history().ops().len().checked_add(replica.held())
 }
 
-/// Takes operations of a FIG text.
-pub(crate) fn take(alloc: Global, replica: &mut Replica, kept: &mut Kept, text: &TakeText) -> Reply
-    requires { KeepsBoth replica.old.ops kept.old }
-    ensures keeps { KeepsBoth replica.new.ops kept.new }
-    ensures answers { (known : List Op) → HasDelivered known replica.old
-        → AnswersNext known (request.Take text.now) result replica.new }
+/// Takes operations of a FIG text, as [`lines`] takes those of lines.
+pub(crate) fn take(
+    alloc: Global,
+    replicas: &mut TwoReplicas,
+    kept: &mut Kept,
+    text: &TakeText,
+) -> Reply
+    requires { KeepsBoth replicas.old.ops kept.old }
+    ensures keeps { KeepsBoth replicas.new.ops kept.new }
+    ensures answers { (known : List Op) → HasDelivered known replicas.old
+        → AnswersNext known (request.Take text.now) result replicas.new }
 {
     if !text.fig.starts_with(b"#FIG") {
         return Reply::Refused(Refusal::Take(TakeRunError::NoDrawing));
     }
-    // The clause of `held` says that the held ids rise.
-    let _ = replica.held();
-    // The clauses of `history` say that the history is accepted and valid, also behind the take.
-    let _ = replica.history();
-    match take_behind(alloc, replica, &mut kept.versions, &text.fig, text.request) {
+    let Ok(copy) = replicas.copy(alloc) else {
+        return Reply::Refused(Refusal::Take(TakeRunError::from(OutOfMemory)));
+    };
+    replicas.newest().recall_state();
+    match take_behind(alloc, copy, &mut kept.versions, &text.fig, text.request) {
         Ok(taken) => {
             let TakenDrawing { ops, answer, site } = taken;
             let (site, found) = site.into_parts();
-            site.give_history(replica);
-            let _ = replica.history();
+            replicas.take_history(site);
+            replicas.newest().recall_state();
             kept.versions = found;
             forget_all(&mut kept.statuses, &ops);
             Reply::Taken(answer)
@@ -132,8 +138,7 @@ pub(crate) fn named(alloc: Global, replica: &Replica, kept: &mut Kept) -> Reply
     ensures answers { (known : List Op) → HasDelivered known replica.now
         → AnswersNext known request.Named result replica.now }
 {
-    // The clause of `held` says that the held ids rise.
-    let _ = replica.held();
+    replica.recall_state();
     match named_of_replica(alloc, replica, &mut kept.versions) {
         Ok(named) => Reply::Named(named),
         Err(fault) => Reply::Refused(Refusal::Run(StudioError::from(fault))),
@@ -147,8 +152,7 @@ pub(crate) fn status(alloc: Global, replica: &Replica, kept: &mut Kept, notation
     ensures answers { (known : List Op) → HasDelivered known replica.now
         → AnswersNext known (request.Status notation) result replica.now }
 {
-    // The clause of `held` says that the held ids rise.
-    let _ = replica.held();
+    replica.recall_state();
     match status_of_replica(alloc, replica, &mut kept.statuses, notation) {
         Ok(status) => Reply::Status(status),
         Err(_) => Reply::Refused(Refusal::Run(StudioError::OutOfMemory)),

@@ -19,6 +19,7 @@ mod request;
 mod run;
 mod serve_error;
 mod service;
+mod two_replicas;
 mod writing;
 
 pub use laws::a_service_answers_as_the_commands;

@@ -8,8 +8,8 @@ ghost use Rattle.gf_site.specs.ReplicaState.{new_replica};
 
 use crate::answering::{lines, named, status, take};
 use crate::kept::Kept;
+use crate::two_replicas::TwoReplicas;
 use crate::{Reply, Request};
-use gf_site::Replica;
 use std::alloc::Global;
 use std::marker::Model;
 use std::thread::Threads;
@@ -19,7 +19,7 @@ use std::thread::Threads;
 #[derive(Drop)]
 pub struct Service {
     alloc: Global,
-    replica: Replica,
+    replicas: TwoReplicas,
     kept: Kept,
 }
 
@@ -29,9 +29,9 @@ impl Model for Service {
 
     ghost Value = { ReplicaState };
 
-    ghost view = { λ s. s.replica };
+    ghost view = { λ s. s.replicas };
 
-    ghost invariant = { λ s. KeepsBoth s.replica.ops s.kept };
+    ghost invariant = { λ s. KeepsBoth s.replicas.ops s.kept };
 }
 
 impl Service {
@@ -41,7 +41,7 @@ impl Service {
     {
         Service {
             alloc,
-            replica: Replica::new(alloc),
+            replicas: TwoReplicas::new(alloc),
             kept: Kept::new(alloc),
         }
     }
@@ -59,16 +59,16 @@ impl Service {
                 lines(
                     rt,
                     self.alloc,
-                    &mut self.replica,
+                    &mut self.replicas,
                     &mut self.kept,
                     text,
                     workers,
                 )
             }
-            Request::Take(text) => take(self.alloc, &mut self.replica, &mut self.kept, &text),
-            Request::Named => named(self.alloc, &self.replica, &mut self.kept),
+            Request::Take(text) => take(self.alloc, &mut self.replicas, &mut self.kept, &text),
+            Request::Named => named(self.alloc, self.replicas.newest(), &mut self.kept),
             Request::Status(notation) => {
-                status(self.alloc, &self.replica, &mut self.kept, notation)
+                status(self.alloc, self.replicas.newest(), &mut self.kept, notation)
             }
         }
     }

@@ -13,7 +13,7 @@ returns-in-Ok-clause-answers c = λ known d. let x = c.args.replica.now in
       record {
         history = x.ops;
         waiting = x.held;
-        divided = divided known x d c.held.ensures.valid;
+        divided = divided known x d c.recall_state.ensures.held;
         text = c.in-Ok.ensures.ok;
         thin = c.in-Ok.ensures.thin;
         wait = c.in-Ok.ensures.waiting;
@@ -25,7 +25,7 @@ pub returns-in-Err-clause-answers : goal.returns-in-Err-clause-answers
 returns-in-Err-clause-answers c = λ known d. let x = c.args.replica.now in
     unchanged known request.Named (reply.Refused (refusal.Run c.from.result)) x d (
       subst (RefusesNamed known) (sym c.from.ensures)
-          (named_refused known x (divided known x d c.held.ensures.valid) c.in-Err.fault
+          (named_refused known x (divided known x d c.recall_state.ensures.held) c.in-Err.fault
           c.in-Err.ensures.err),
       refl,
     )

@@ -11,7 +11,7 @@ returns-in-Ok-clause-answers c = λ known d. let x = c.args.replica.now in
       record {
         history = x.ops;
         waiting = x.held;
-        divided = divided known x d c.held.ensures.valid;
+        divided = divided known x d c.recall_state.ensures.held;
         tells = c.in-Ok.ensures.tells;
       },
       refl,
