@@ -4,16 +4,13 @@
 //!   [`colour_of`] give its parts.
 //! - [`start_fault`]: the first limit of operations that it breaks, a [`FigureFault`];
 //!   [`object_of`]: the number by which the figure is told.
-//! - [`same_form`]: whether two forms are one.
 #![tactic(auto)]
 
 mod boxes;
 mod figure_fault;
 mod limits;
 mod making;
-mod same;
 
 pub use figure_fault::FigureFault;
 pub use limits::start_fault;
 pub use making::{colour_of, form_of, object_of, place_of, start_of};
-pub use same::same_form;

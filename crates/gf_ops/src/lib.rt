@@ -4,7 +4,7 @@
 //! - [`Start`] with its [`Form`] and [`Points`], [`ObjectId`]: what a new object begins with, and
 //!   its name.
 //! - [`Value`], [`Attr`]: what a change of an object sets.
-//! - [`same_op`]: whether two operations agree in everything.
+//! - [`same_op`], [`same_form`]: whether two operations, or two forms, agree in everything.
 //! - [`before`], [`concurrent`]: the causal order of operations.
 //! - [`conflicts`]: whether two operations cannot stand in one version; [`direct_conflict`]:
 //!   whether they cannot by themselves, whatever their aims, which are [`Ids`]. [`id_set`] makes a
@@ -47,4 +47,4 @@ pub use limits::{are_near, is_near, is_size};
 pub use op::{Clock, ObjectId, Op, OpId};
 pub use order::{before, concurrent};
 pub use points::Points;
-pub use same::same_op;
+pub use same::{same_form, same_op};

@@ -1,4 +1,4 @@
-//! Whether two operations are one.
+//! Whether two operations, or two forms, are one.
 
 ghost use Rattle.std.specs.Prelude.{◌≡◌, ◌↔◌, IsTrue};
 
@@ -50,7 +50,8 @@ fn same_start(a: &Start, b: &Start) -> bool
         && a.shown == b.shown
 }
 
-fn same_form(a: &Form, b: &Form) -> bool
+/// Whether two forms agree in everything.
+pub fn same_form(a: &Form, b: &Form) -> bool
     ensures { IsTrue result ↔ a.now ≡ b.now }
 {
     match (a, b) {

@@ -6,7 +6,8 @@ ghost use Rattle.gf_take.specs.Matching.{BecomeAlike, IsTraced};
 use crate::swapping::same_colour;
 use gf_base::OutOfMemory;
 use gf_figures::{Drawing, Figure};
-use gf_objects::{colour_of, form_of, place_of, same_form};
+use gf_objects::{colour_of, form_of, place_of};
+use gf_ops::same_form;
 use gf_shape::{Outline, Point, Rgb};
 use std::alloc::Global;
 
