@@ -61,20 +61,29 @@ impl FoundVersions {
         self.items.len()
     }
 
+    /// A copy of the versions.
+    pub(crate) fn copy(&self, alloc: Global) -> Result<FoundVersions, OutOfMemory>
+        ensures { IfOk result (λ copy. copy ≡ self.now) }
+    {
+        Ok(FoundVersions {
+            items: self.copies(alloc)?,
+        })
+    }
+
     /// Copies of the versions, in their order.
     pub(crate) fn copies(&self, alloc: Global) -> Result<Vec<Placed<AnyShape>>, OutOfMemory>
         ensures { IfOk result (λ copies. copies.items ≡ self.now) }
     {
         let mut copies = Vec::new(alloc);
         for item in &self.items {
-            copies.push(copy(alloc, item)?)?;
+            copies.push(copy_of(alloc, item)?)?;
         }
         Ok(copies)
     }
 }
 
 /// A copy of a version at its place.
-fn copy(alloc: Global, item: &Placed<AnyShape>) -> Result<Placed<AnyShape>, OutOfMemory>
+fn copy_of(alloc: Global, item: &Placed<AnyShape>) -> Result<Placed<AnyShape>, OutOfMemory>
     ensures { IfOk result (λ copy. copy ≡ item.now) }
 {
     Ok(Placed {

@@ -2,7 +2,7 @@
 
 ghost use Rattle.std.specs.Prelude.{◌≡◌, ◌∷◌, [], ◌++◌, ◌≤◌, cond, length, List, Contains};
 ghost use Rattle.std.specs.Prelude.{IfNone, IfOk, IfSome, OnErr, OnOk, None, Some, option_map};
-ghost use Rattle.std.specs.BTreeMap.{is_at};
+ghost use Rattle.std.specs.BTreeMap.{insert_entry, is_at};
 ghost use Rattle.gf_ops.specs.declared.op.Op.{Op};
 ghost use Rattle.gf_ops.specs.Attribute.{object_of};
 ghost use Rattle.gf_ops.specs.ValidHistory.{IsValid};
@@ -51,6 +51,18 @@ impl KeptVersions {
         KeptVersions {
             objects: BTreeMap::new(alloc),
         }
+    }
+
+    /// A copy of what is kept.
+    pub fn copy(&self, alloc: Global) -> Result<KeptVersions, OutOfMemory>
+        ensures { IfOk result (λ copy. copy ≡ self.now) }
+    {
+        let mut objects = BTreeMap::new(alloc);
+        for (object, found) in &self.objects {
+            let found = found.copy(alloc)?;
+            put(&mut objects, *object, found)?;
+        }
+        Ok(KeptVersions { objects })
     }
 
     /// Forgets what is kept of an object, once the history has one more operation on it.
@@ -186,7 +198,9 @@ fn put(
     object: ObjectId,
     found: FoundVersions,
 ) -> Result<(), OutOfMemory>
-    ensures ok { OnOk result ((o : ObjectId) → kept_of objects.new.entries o
+    ensures ok { OnOk result (objects.new.entries
+        ≡ insert_entry object_cmp objects.old.entries object found) }
+    ensures puts { OnOk result ((o : ObjectId) → kept_of objects.new.entries o
         ≡ cond (is_at (object_cmp object) o) (Some found) (kept_of objects.old.entries o)) }
     ensures err { OnErr result (objects.new.entries ≡ objects.old.entries) }
 {
