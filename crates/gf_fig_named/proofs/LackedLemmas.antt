@@ -17,7 +17,8 @@ use Rattle.gf_versions.specs.declared.placed.Placed.{Placed}
 use Rattle.gf_names.specs.RisingIds.{IsRisingOf}
 use Rattle.gf_table.specs.Standing.{positions_of}
 use Rattle.gf_fig_named.specs.Others.{AreElsewhere, AreLackedAmong, AreLackedAt, AreOthers}
-use Rattle.gf_fig_named.specs.Others.{ArePlaces, IsElsewhere, IsLackedOf}
+use Rattle.gf_fig_named.specs.Others.{IsElsewhere, IsLackedOf}
+use Rattle.gf_fig_named.specs.Places.{ArePlaces}
 use Rattle.gf_fig_named.proofs.TakenLemmas.{any_default}
 
 -- what stands at one index is one

@@ -12,7 +12,7 @@ use Rattle.gf_table.specs.Positions.{object_cmp}
 use Rattle.gf_table.specs.Standing.{positions_of}
 use Rattle.gf_table.proofs.StandsLemmas.{tied_is_one, tied_with_itself}
 use Rattle.gf_versions.specs.declared.placed.Placed.{Placed}
-use Rattle.gf_fig_named.specs.Others.{ArePlaces}
+use Rattle.gf_fig_named.specs.Places.{ArePlaces}
 use Rattle.gf_fig_named.proofs.LackedLemmas.{at_index}
 
 -- the table after one more place is pushed

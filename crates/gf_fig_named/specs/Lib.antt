@@ -4,6 +4,7 @@ pub mod Known
 pub mod KnownSteps
 pub mod Raised
 pub mod NamedText
+pub mod Places
 pub mod Others
 pub mod ThinPolygons
 pub mod NamesAbove

@@ -11,7 +11,6 @@ use Rattle.gf_ops.specs.Version.{IsMember}
 use Rattle.gf_versions.specs.declared.key.VersionKey.{VersionKey}
 use Rattle.gf_versions.specs.declared.placed.Placed.{Placed}
 use Rattle.gf_names.specs.Telling.{AreTelling}
-use Rattle.gf_table.specs.Standing.{positions_of}
 use Rattle.gf_fig_named.specs.declared.naming.Lead.{Lead}
 use Rattle.gf_fig_named.specs.declared.naming.Name.{Name}
 
@@ -50,13 +49,6 @@ pub record IsLackedAmong (items : List (Placed AnyShape)) (places : List ℕ) (k
 abbrev pub AreLackedAmong : List (Placed AnyShape) → List ℕ → VersionKey → List OpId → Type 0
 AreLackedAmong items places key ids = (i : OpId) → Contains ids i
     ↔ IsLackedAmong items places key i
-
--- the table has for each object places before n, and for each item before n its own place
-pub record ArePlaces (items : List (Placed AnyShape)) (n : ℕ)
-    (table : List (ObjectId × List ℕ)) : Type 0 where
-  pub within : (o : ObjectId) (k : ℕ) → Contains (positions_of table o) k → k < n
-  pub each : (k : ℕ) (i : Placed AnyShape) → k < n → i ≡ slice_index_or items k i
-      → Contains (positions_of table i.key.object) k
 
 -- the rising ids are those of the items of its object that the item at this index lacks
 pub record AreLackedAt (items : List (Placed AnyShape)) (index : ℕ)

@@ -9,17 +9,17 @@ ghost use Rattle.gf_ops.specs.declared.op.OpId.{OpId};
 ghost use Rattle.gf_versions.specs.Ranking.{AreRanked};
 ghost use Rattle.gf_fig_named.specs.NamedText.{IsNameOf};
 ghost use Rattle.gf_fig_named.specs.Others.{AreLackedAmong, AreLackedAt, AreOfOne, AreOthers};
-ghost use Rattle.gf_fig_named.specs.Others.{ArePlaces, AreRising};
+ghost use Rattle.gf_fig_named.specs.Others.{AreRising};
 ghost use Rattle.gf_fig_named.specs.Others.{IsLackedOf, IsLead, IsNameAmong};
+ghost use Rattle.gf_fig_named.specs.Places.{ArePlaces};
 
+use crate::Places;
 use gf_base::OutOfMemory;
 use gf_names::{push_lacking, rising, telling};
 use gf_ops::{History, Ids, ObjectId, OpId};
 use gf_shape::AnyShape;
-use gf_table::{Positions, positions_at, push_position};
 use gf_versions::{Placed, VersionKey};
 use std::alloc::Global;
-use std::collections::BTreeMap;
 
 /// What a figure is called: its object, and the operations that tell its version from the other
 /// visible ones of the object.
@@ -50,7 +50,7 @@ pub fn names_of(
         AllZip (IsNameOf history.now.ops items.now) items.now names.items) }
 {
     history.recall_valid();
-    let places = places_of(alloc, items)?;
+    let places = Places::of(alloc, items)?;
     let mut names = Vec::new(alloc);
     let mut lead = Lead {
         first: 0,
@@ -70,30 +70,16 @@ pub fn names_of(
     Ok(names)
 }
 
-/// For each object the places of its items.
-fn places_of(
-    alloc: Global,
-    items: &[Placed<AnyShape>],
-) -> Result<BTreeMap<ObjectId, Positions>, OutOfMemory>
-    ensures { IfOk result (λ places. ArePlaces items.now (length items.now) places.entries) }
-{
-    let mut places = BTreeMap::new(alloc);
-    for (place, item) in items.iter().enumerate() {
-        push_position(alloc, &mut places, item.key.object, place)?;
-    }
-    Ok(places)
-}
-
 /// What leads the item at this index: the one before, if it is of the same object, or the item.
 fn lead_of(
     alloc: Global,
     items: &[Placed<AnyShape>],
-    places: &BTreeMap<ObjectId, Positions>,
+    places: &Places,
     index: usize,
     before: Lead,
 ) -> Result<Lead, OutOfMemory>
     requires rising { AreRising items.now }
-    requires places { ArePlaces items.now (length items.now) places.now.entries }
+    requires places { ArePlaces items.now (length items.now) places.now }
     requires within { index < length items.now }
     requires before { 1 ≤ index → IsLead items.now before }
     ensures lead { IfOk result (IsLead items.now) }
@@ -119,16 +105,16 @@ fn is_same(object: ObjectId, other: ObjectId) -> bool
 fn lacked_ids(
     alloc: Global,
     items: &[Placed<AnyShape>],
-    places: &BTreeMap<ObjectId, Positions>,
+    places: &Places,
     index: usize,
 ) -> Result<Ids, OutOfMemory>
     requires rising { AreRising items.now }
-    requires places { ArePlaces items.now (length items.now) places.now.entries }
+    requires places { ArePlaces items.now (length items.now) places.now }
     requires within { index < length items.now }
     ensures { IfOk result (AreLackedAt items.now index) }
 {
     let key = &items[index].key;
-    let found = lacked_among(alloc, items, positions_at(places, key.object), key)?;
+    let found = lacked_among(alloc, items, places.at(key.object), key)?;
     rising(alloc, &found)
 }
 

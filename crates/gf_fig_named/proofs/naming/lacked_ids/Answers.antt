@@ -13,15 +13,15 @@ pub lacked_among-requires-clause-within : goal.lacked_among-requires-clause-with
 lacked_among-requires-clause-within c = λ k there.
     let item = get_or c.args.items.now c.args.index c.index-items-index.result in
     c.requires.places.within item.key.object k
-    (subst (λ (ks : List ℕ). Contains ks k) c.positions_at.ensures there)
+    (subst (λ (ks : List ℕ). Contains ks k) c.at.ensures there)
 
 pub returns : goal.returns
 returns c =
     let items = c.args.items.now in
     let item = get_or items c.args.index c.index-items-index.result in
     let found = c.in_ok-found.found.items in
-    let among = among_all items c.args.places.now.entries c.requires.places item.key found
-    (subst (λ (ks : List ℕ). AreLackedAmong items ks item.key found) c.positions_at.ensures
+    let among = among_all items c.args.places.now c.requires.places item.key found
+    (subst (λ (ks : List ℕ). AreLackedAmong items ks item.key found) c.at.ensures
     c.in_ok-found.ensures) in
     if_ok c.rising.result (λ ids. IsRisingOf c.deref.result.now ids) (AreLackedAt items c.args.index)
     (λ ids r. lacked_rising items c.args.index c.index-items-index.result found ids
