@@ -1,47 +1,51 @@
 //! At which operations a change is aimed, so that it is meant for some versions alone.
 
+use crate::ranks::ShownVersions;
 use gf_base::OutOfMemory;
 use gf_names::{rising, telling};
 use gf_ops::{History, Ids, OpId};
-use gf_shape::AnyShape;
-use gf_versions::{Placed, VersionKey};
+use gf_table::IndexedHistory;
+use gf_versions::VersionKey;
 use std::alloc::Global;
 
 /// The greatest number of operations in an aim.
 pub(crate) const MOST_AIMED: usize = 1_000;
 
-/// What tells a version from the other versions of its object in a list: operations of the version,
+/// What tells a version from the others of its object that are shown: operations of the version,
 /// rising by id.
 pub(crate) fn told_from(
     alloc: Global,
-    history: &History,
-    versions: &[Placed<AnyShape>],
+    shown: ShownVersions<'_>,
     key: &VersionKey,
 ) -> Result<Ids, OutOfMemory> {
     let mut others = Vec::new(alloc);
-    for other in versions {
-        if other.key.object == key.object && other.key.ops != key.ops {
-            others.extend_from_slice(other.key.ops.as_slice())?;
+    for rank in shown.of_object(key.object) {
+        match shown.versions.get(rank.index) {
+            Some(other) if other.key.ops != key.ops => {
+                others.extend_from_slice(other.key.ops.as_slice())?;
+            }
+            Some(_) | None => {}
         }
     }
-    telling(alloc, history, key.ops.as_slice(), &others)
+    telling(alloc, shown.history.history(), key.ops.as_slice(), &others)
 }
 
 /// The aim that no version of an object has but this one: what tells it from all operations on the
 /// object, and what these are aimed at.
 pub(crate) fn aim_to_keep(
     alloc: Global,
-    history: &History,
+    history: &IndexedHistory,
     key: &VersionKey,
 ) -> Result<Ids, OutOfMemory> {
+    let ops = history.history().ops();
     let mut others = Vec::new(alloc);
-    for op in history.ops() {
-        if op.object() == key.object {
+    for position in history.table().positions(key.object) {
+        if let Some(op) = ops.get(*position) {
             others.push(op.id)?;
         }
     }
-    let told = telling(alloc, history, key.ops.as_slice(), &others)?;
-    aim_at(alloc, history, told.as_slice())
+    let told = telling(alloc, history.history(), key.ops.as_slice(), &others)?;
+    aim_at(alloc, history.history(), told.as_slice())
 }
 
 /// What is left of ids when each is left out, in order, without which the rest is still in none of

@@ -4,9 +4,11 @@ use crate::Target;
 use crate::aiming::{MOST_AIMED, aim_at, aim_to_keep, fewest, has_all, told_from};
 use crate::comparing::{moved, points_from, size_of};
 use crate::matching::{Candidate, Matching};
+use crate::ranks::{ShownVersions, ranks_by_object};
 use gf_base::OutOfMemory;
-use gf_ops::{Attr, Change, Form, History, Ids, ObjectId, OpId, Start, Value};
+use gf_ops::{Attr, Change, Form, Ids, ObjectId, OpId, Start, Value};
 use gf_shape::{AnyShape, Point};
+use gf_table::IndexedHistory;
 use gf_versions::Placed;
 use std::alloc::Global;
 
@@ -14,17 +16,23 @@ use std::alloc::Global;
 /// hide the others. Creations and layers are not among them.
 pub fn alterations(
     alloc: Global,
-    history: &History,
+    history: &IndexedHistory,
     versions: &[Placed<AnyShape>],
     targets: &[Target],
     matching: &Matching,
 ) -> Result<Vec<Change>, OutOfMemory> {
+    let ranks = ranks_by_object(alloc, versions)?;
+    let shown = ShownVersions {
+        history,
+        versions,
+        ranks: &ranks,
+    };
     let mut changes = Vec::new(alloc);
     for attribute in [Attr::Place, Attr::Size, Attr::Points, Attr::Colour] {
         let wishes = wishes_of(alloc, attribute, targets, matching)?;
-        change_all(alloc, history, versions, wishes, &mut changes)?;
+        change_all(alloc, shown, wishes, &mut changes)?;
     }
-    hide_all(alloc, history, versions, matching, &mut changes)?;
+    hide_all(alloc, shown, matching, &mut changes)?;
     Ok(changes)
 }
 
@@ -99,16 +107,15 @@ fn points_of(
 /// the value from those that do not.
 pub(crate) fn change_all(
     alloc: Global,
-    history: &History,
-    versions: &[Placed<AnyShape>],
+    shown: ShownVersions<'_>,
     mut wishes: Vec<Option<Value>>,
     changes: &mut Vec<Change>,
 ) -> Result<(), OutOfMemory> {
-    for index in 0..versions.len() {
-        let ids = told_by(alloc, history, versions, &wishes, index)?;
+    for index in 0..shown.versions.len() {
+        let ids = told_by(alloc, shown, &wishes, index)?;
         if let Some(ids) = ids {
-            let aim = aim_at(alloc, history, &ids)?;
-            change_one(versions, &mut wishes, index, &ids, aim, changes)?;
+            let aim = aim_at(alloc, shown.history.history(), &ids)?;
+            change_one(shown, &mut wishes, index, &ids, aim, changes)?;
         }
     }
     Ok(())
@@ -118,31 +125,33 @@ pub(crate) fn change_all(
 /// that don't want this value.
 fn told_by(
     alloc: Global,
-    history: &History,
-    versions: &[Placed<AnyShape>],
+    shown: ShownVersions<'_>,
     wishes: &[Option<Value>],
     index: usize,
 ) -> Result<Option<Vec<OpId>>, OutOfMemory> {
-    let (Some(version), Some(Some(value))) = (versions.get(index), wishes.get(index)) else {
+    let (Some(version), Some(Some(value))) = (shown.versions.get(index), wishes.get(index)) else {
         return Ok(None);
     };
-    let others = others_of(alloc, versions, wishes, version.key.object, value)?;
-    let told = told_from(alloc, history, versions, &version.key)?;
+    let others = others_of(alloc, shown, wishes, version.key.object, value)?;
+    let told = told_from(alloc, shown, &version.key)?;
     Ok(Some(fewest(alloc, &told, &others)?))
 }
 
 /// The operations of each version of an object that doesn't want this value.
 fn others_of<'a>(
     alloc: Global,
-    versions: &'a [Placed<AnyShape>],
+    shown: ShownVersions<'a>,
     wishes: &[Option<Value>],
     object: ObjectId,
     value: &Value,
 ) -> Result<Vec<&'a [OpId]>, OutOfMemory> {
     let mut others = Vec::new(alloc);
-    for (other, wish) in versions.iter().zip(wishes.iter()) {
-        if other.key.object == object && !wants(wish, value) {
-            others.push(other.key.ops.as_slice())?;
+    for rank in shown.of_object(object) {
+        let (version, wish) = (shown.versions.get(rank.index), wishes.get(rank.index));
+        if let (Some(other), Some(wish)) = (version, wish) {
+            if !wants(wish, value) {
+                others.push(other.key.ops.as_slice())?;
+            }
         }
     }
     Ok(others)
@@ -159,24 +168,26 @@ fn wants(wish: &Option<Value>, value: &Value) -> bool {
 /// Changes a version to what it wants, with all of its object that want the same and have these
 /// operations. None of these wants it any more.
 fn change_one(
-    versions: &[Placed<AnyShape>],
+    shown: ShownVersions<'_>,
     wishes: &mut [Option<Value>],
     index: usize,
     ids: &[OpId],
     aim: Ids,
     changes: &mut Vec<Change>,
 ) -> Result<(), OutOfMemory> {
-    let (Some(version), Some(wish)) = (versions.get(index), wishes.get_mut(index)) else {
+    let (Some(version), Some(wish)) = (shown.versions.get(index), wishes.get_mut(index)) else {
         return Ok(());
     };
     let object = version.key.object;
     let Some(value) = wish.take() else {
         return Ok(());
     };
-    for (other, wish) in versions.iter().zip(wishes.iter_mut()) {
-        let is_met = other.key.object == object && has_all(other.key.ops.as_slice(), ids);
-        if is_met && wants(wish, &value) {
-            *wish = None;
+    for rank in shown.of_object(object) {
+        let (version, wish) = (shown.versions.get(rank.index), wishes.get_mut(rank.index));
+        if let (Some(other), Some(wish)) = (version, wish) {
+            if wants(wish, &value) && has_all(other.key.ops.as_slice(), ids) {
+                *wish = None;
+            }
         }
     }
     changes.push(Change::Set { object, value, aim })?;
@@ -186,41 +197,49 @@ fn change_one(
 /// Hides each version that is no figure.
 fn hide_all(
     alloc: Global,
-    history: &History,
-    versions: &[Placed<AnyShape>],
+    shown: ShownVersions<'_>,
     matching: &Matching,
     changes: &mut Vec<Change>,
 ) -> Result<(), OutOfMemory> {
-    let mut hidden: Vec<ObjectId> = Vec::new(alloc);
-    for (version, candidate) in versions.iter().zip(matching.candidates.iter()) {
+    for (index, version) in shown.versions.iter().enumerate() {
         let object = version.key.object;
-        if candidate.figure.is_none() && !hidden.contains(&object) {
-            hidden.push(object)?;
-            hide_of(alloc, history, versions, matching, object, changes)?;
+        if first_without(shown, matching, object) == Some(index) {
+            hide_of(alloc, shown, matching, object, changes)?;
         }
     }
     Ok(())
+}
+
+/// The index of the first version of an object that is no figure, if there is one.
+fn first_without(shown: ShownVersions<'_>, matching: &Matching, object: ObjectId) -> Option<usize> {
+    for rank in shown.of_object(object) {
+        if !matching.has_figure(rank.index) {
+            return Some(rank.index);
+        }
+    }
+    None
 }
 
 /// Hides the versions of an object that are no figures. The object is hidden whole, and each
 /// version that stays is shown again.
 fn hide_of(
     alloc: Global,
-    history: &History,
-    versions: &[Placed<AnyShape>],
+    shown: ShownVersions<'_>,
     matching: &Matching,
     object: ObjectId,
     changes: &mut Vec<Change>,
 ) -> Result<(), OutOfMemory> {
     let mut whole = Vec::new(alloc);
-    whole.push(shown(object, false, Ids::new(Vec::new(alloc))))?;
-    for (version, candidate) in versions.iter().zip(matching.candidates.iter()) {
-        if version.key.object == object && candidate.figure.is_some() {
-            let aim = aim_to_keep(alloc, history, &version.key)?;
-            if MOST_AIMED < aim.as_slice().len() {
-                return hide_each(alloc, history, versions, matching, object, changes);
+    whole.push(set_shown(object, false, Ids::new(Vec::new(alloc))))?;
+    for rank in shown.of_object(object) {
+        if let Some(version) = shown.versions.get(rank.index) {
+            if matching.has_figure(rank.index) {
+                let aim = aim_to_keep(alloc, shown.history, &version.key)?;
+                if MOST_AIMED < aim.as_slice().len() {
+                    return hide_each(alloc, shown, matching, object, changes);
+                }
+                whole.push(set_shown(object, true, aim))?;
             }
-            whole.push(shown(object, true, aim))?;
         }
     }
     changes.append(&mut whole)?;
@@ -230,25 +249,24 @@ fn hide_of(
 /// Hides each version of an object that is no figure, aimed at what tells it from the others.
 fn hide_each(
     alloc: Global,
-    history: &History,
-    versions: &[Placed<AnyShape>],
+    shown: ShownVersions<'_>,
     matching: &Matching,
     object: ObjectId,
     changes: &mut Vec<Change>,
 ) -> Result<(), OutOfMemory> {
-    let mut wishes = Vec::with_capacity(alloc, versions.len())?;
-    for (version, candidate) in versions.iter().zip(matching.candidates.iter()) {
-        if version.key.object == object && candidate.figure.is_none() {
+    let mut wishes = Vec::with_capacity(alloc, shown.versions.len())?;
+    for (index, version) in shown.versions.iter().enumerate() {
+        if version.key.object == object && !matching.has_figure(index) {
             wishes.push(Some(Value::Shown(false)))?;
         } else {
             wishes.push(None)?;
         }
     }
-    change_all(alloc, history, versions, wishes, changes)
+    change_all(alloc, shown, wishes, changes)
 }
 
 /// The change that shows an object, or hides it, in the versions that have the aim.
-pub(crate) fn shown(object: ObjectId, shown: bool, aim: Ids) -> Change {
+pub(crate) fn set_shown(object: ObjectId, shown: bool, aim: Ids) -> Change {
     Change::Set {
         object,
         value: Value::Shown(shown),

@@ -5,10 +5,11 @@ use crate::aiming::has_all;
 use crate::altering::change_all;
 use crate::matching::Matching;
 use crate::ordering::{Look, OrderRow, Spot, Staying, layers_of};
-use crate::ranks::{Rank, ranks_by_object, ranks_of};
+use crate::ranks::{ShownVersions, ranks_by_object};
 use gf_base::OutOfMemory;
-use gf_ops::{Change, History, Start, Value};
+use gf_ops::{Change, Start, Value};
 use gf_shape::AnyShape;
+use gf_table::IndexedHistory;
 use gf_versions::{Placed, VersionKey};
 use std::alloc::Global;
 
@@ -16,15 +17,21 @@ use std::alloc::Global;
 /// them. It shows these versions, and has the changes of those that it showed before.
 pub fn arranged(
     alloc: Global,
-    history: &History,
+    history: &IndexedHistory,
     before: &[Placed<AnyShape>],
     versions: &[Placed<AnyShape>],
     targets: &[Target],
     matching: &Matching,
 ) -> Result<Vec<Change>, OutOfMemory> {
-    let followers = followed(alloc, before, versions, matching)?;
+    let ranks = ranks_by_object(alloc, versions)?;
+    let shown = ShownVersions {
+        history,
+        versions,
+        ranks: &ranks,
+    };
+    let followers = followed(alloc, before, shown, matching)?;
     let layers = layers_for(alloc, versions, targets, &followers)?;
-    let mut changes = layer_changes(alloc, history, versions, &followers, &layers)?;
+    let mut changes = layer_changes(alloc, shown, &followers, &layers)?;
     let mut drawn = creations_of(alloc, targets, &followers, &layers)?;
     changes.append(&mut drawn)?;
     Ok(changes)
@@ -45,14 +52,13 @@ fn layers_for(
 /// The changes by which each version gets the layer of its figure.
 fn layer_changes(
     alloc: Global,
-    history: &History,
-    versions: &[Placed<AnyShape>],
+    shown: ShownVersions<'_>,
     followers: &[Option<usize>],
     layers: &[u16],
 ) -> Result<Vec<Change>, OutOfMemory> {
-    let wishes = layer_wishes(alloc, versions, followers, layers)?;
+    let wishes = layer_wishes(alloc, shown.versions, followers, layers)?;
     let mut changes = Vec::new(alloc);
-    change_all(alloc, history, versions, wishes, &mut changes)?;
+    change_all(alloc, shown, wishes, &mut changes)?;
     Ok(changes)
 }
 
@@ -84,13 +90,12 @@ fn creation(alloc: Global, start: &Start, layer: u16) -> Result<Change, OutOfMem
 fn followed(
     alloc: Global,
     before: &[Placed<AnyShape>],
-    versions: &[Placed<AnyShape>],
+    shown: ShownVersions<'_>,
     matching: &Matching,
 ) -> Result<Vec<Option<usize>>, OutOfMemory> {
-    let ranks = ranks_by_object(alloc, versions)?;
     let mut followers = Vec::with_capacity(alloc, matching.versions.len())?;
     for version in matching.versions.iter() {
-        followers.push(follower(before, *version, versions, &ranks))?;
+        followers.push(follower(before, *version, shown))?;
     }
     Ok(followers)
 }
@@ -99,16 +104,15 @@ fn followed(
 fn follower(
     before: &[Placed<AnyShape>],
     index: Option<usize>,
-    versions: &[Placed<AnyShape>],
-    ranks: &[Rank],
+    shown: ShownVersions<'_>,
 ) -> Option<usize> {
     let index = index?;
     let old = &before.get(index)?.key;
-    if is_follower(versions, index, old) {
+    if is_follower(shown.versions, index, old) {
         return Some(index);
     }
-    for rank in ranks_of(ranks, old.object) {
-        if is_follower(versions, rank.index, old) {
+    for rank in shown.of_object(old.object) {
+        if is_follower(shown.versions, rank.index, old) {
             return Some(rank.index);
         }
     }

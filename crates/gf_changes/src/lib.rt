@@ -17,6 +17,7 @@ mod aiming;
 mod altering;
 mod arranging;
 mod comparing;
+mod finding;
 mod matching;
 mod ordering;
 mod ranks;

@@ -5,10 +5,11 @@ ghost use Rattle.gf_versions.specs.Ranking.{AreRanked};
 use crate::Target;
 use crate::aiming::has_all;
 use crate::comparing::{can_get_points, differences, has_other_points, is_polygon};
+use crate::finding::Finder;
 use crate::settled::{settled_place, start_like};
 use gf_base::OutOfMemory;
 use gf_fig_named::Named;
-use gf_ops::{Clock, History, OpId, Start};
+use gf_ops::{Clock, History, Start};
 use gf_shape::{AnyShape, Point};
 use gf_versions::{Placed, VersionKey};
 use std::alloc::Global;
@@ -18,8 +19,7 @@ use std::alloc::Global;
 pub struct Matching {
     pub(crate) versions: Vec<Option<usize>>,
     pub(crate) candidates: Vec<Candidate>,
-    /// Each version before this index is matched.
-    first: usize,
+    finder: Finder,
 }
 
 /// A version that may be a figure.
@@ -33,14 +33,15 @@ pub(crate) struct Candidate {
     pub(crate) figure: Option<usize>,
 }
 
-/// How the figures of a drawing and versions may be one.
+/// How a figure and a version may be one.
 #[derive(Clone, Copy)]
 enum Way {
     /// The figure has the name of the version.
     Named,
-    /// Nothing differs, or little, and the object was made since the drawing was written, which
-    /// knew so many operations.
-    Alike(Clock),
+    /// Nothing differs.
+    Same,
+    /// The object was made since the drawing was written.
+    Newer,
 }
 
 /// One round over the figures: how a pair may be one, and in how many attributes it differs.
@@ -65,12 +66,28 @@ pub fn matched(
 ) -> Result<Matching, OutOfMemory>
     requires { AreRanked history.now.ops versions.now }
 {
-    let mut matching = unmatched(alloc, versions, targets.len())?;
-    for way in [Way::Named, Way::Alike(*seen)] {
-        for count in 0..=3 {
-            let round = Round { way, count };
-            match_all(alloc, history, versions, targets, &mut matching, round)?;
-        }
+    let mut matching = unmatched(alloc, versions, targets.len(), seen)?;
+    for count in 0..=3 {
+        let way = Way::Named;
+        match_all(
+            alloc,
+            history,
+            versions,
+            targets,
+            &mut matching,
+            Round { way, count },
+        )?;
+    }
+    for count in 0..=2 {
+        let way = if count == 0 { Way::Same } else { Way::Newer };
+        match_all(
+            alloc,
+            history,
+            versions,
+            targets,
+            &mut matching,
+            Round { way, count },
+        )?;
     }
     Ok(matching)
 }
@@ -80,6 +97,7 @@ fn unmatched(
     alloc: Global,
     versions: &[Placed<AnyShape>],
     count: usize,
+    seen: &Clock,
 ) -> Result<Matching, OutOfMemory> {
     let mut figures = Vec::with_capacity(alloc, count)?;
     for _ in 0..count {
@@ -93,10 +111,11 @@ fn unmatched(
             figure: None,
         })?;
     }
+    let finder = Finder::of(alloc, versions, &candidates, seen)?;
     Ok(Matching {
         versions: figures,
         candidates,
-        first: 0,
+        finder,
     })
 }
 
@@ -132,11 +151,12 @@ fn match_of(
 ) -> Result<Option<usize>, OutOfMemory>
     requires { AreRanked history.now.ops versions.now }
 {
-    for v in matching.first..versions.len() {
-        if matching.may_match(versions, v, figure, round) {
-            matching.settle_for(alloc, history, versions, v, figure)?;
-            if matching.can_become(v, figure) {
-                return Ok(Some(v));
+    let found = matching.found(alloc, figure, round.way)?;
+    for v in found.iter() {
+        if matching.may_match(versions, *v, figure, round) {
+            matching.settle_for(alloc, history, versions, *v, figure)?;
+            if matching.can_become(*v, figure) {
+                return Ok(Some(*v));
             }
         }
     }
@@ -163,6 +183,16 @@ fn is_free(entries: &[Option<usize>], index: usize) -> bool {
 }
 
 impl Matching {
+    /// The indices of the versions that a figure may be in this way, rising, and maybe of others.
+    fn found(&self, alloc: Global, figure: &Target, way: Way) -> Result<Vec<usize>, OutOfMemory> {
+        match (way, &figure.name) {
+            (Way::Named, Some(named)) => self.finder.of_object(alloc, named.name.object),
+            (Way::Named, None) => Ok(Vec::new(alloc)),
+            (Way::Same, _) => self.finder.like(alloc, figure),
+            (Way::Newer, _) => self.finder.newer(alloc),
+        }
+    }
+
     /// Whether a figure may be the version at an index in this round, if its limits allow this.
     fn may_match(
         &self,
@@ -174,7 +204,7 @@ impl Matching {
         match (versions.get(index), self.candidates.get(index)) {
             (Some(version), Some(candidate)) => {
                 candidate.figure.is_none()
-                    && is_in_way(&version.key, figure, round)
+                    && is_in_way(&version.key, figure, round.way)
                     && differences(&candidate.start, &figure.start) == Some(round.count)
             }
             (None, _) | (Some(_), None) => false,
@@ -209,6 +239,14 @@ impl Matching {
         }
     }
 
+    /// Whether the version at an index is a figure.
+    pub(crate) fn has_figure(&self, index: usize) -> bool {
+        match self.candidates.get(index) {
+            Some(candidate) => candidate.figure.is_some(),
+            None => false,
+        }
+    }
+
     /// Matches a figure and a version.
     fn pair(&mut self, figure: usize, version: usize) {
         if let Some(entry) = self.versions.get_mut(figure) {
@@ -216,9 +254,6 @@ impl Matching {
         }
         if let Some(candidate) = self.candidates.get_mut(version) {
             candidate.figure = Some(figure);
-        }
-        if version == self.first {
-            self.first = version.saturating_add(1);
         }
     }
 }
@@ -236,25 +271,16 @@ impl Candidate {
     }
 }
 
-/// Whether a figure may be a version in the way of a round.
-fn is_in_way(key: &VersionKey, figure: &Target, round: Round) -> bool {
-    match round.way {
-        Way::Named => match &figure.name {
-            Some(name) => is_named(key, name),
-            None => false,
-        },
-        Way::Alike(seen) => {
-            round.count == 0 || round.count <= 2 && is_newer(key.object.0, &seen)
-        }
+/// Whether a figure may be a version that was found in this way.
+fn is_in_way(key: &VersionKey, figure: &Target, way: Way) -> bool {
+    match (way, &figure.name) {
+        (Way::Named, Some(named)) => is_named(key, named),
+        (Way::Named, None) => false,
+        (Way::Same | Way::Newer, _) => true,
     }
 }
 
 /// Whether a name may be that of a version.
 pub(crate) fn is_named(key: &VersionKey, name: &Named) -> bool {
     key.object == name.name.object && has_all(key.ops.as_slice(), name.name.telling.as_slice())
-}
-
-/// Whether a clock does not count the operation of this id.
-fn is_newer(id: OpId, seen: &Clock) -> bool {
-    seen.entry(id.site) < id.seq
 }

@@ -165,11 +165,16 @@ fn given_anew(alloc: Global, count: usize) -> Result<Vec<u16>, OutOfMemory> {
 /// The layers of figures that are listed from the back to the front, each above those behind it
 /// that matter. None where one would be above the highest layer.
 fn raise_all(alloc: Global, rows: &[OrderRow]) -> Result<Option<Vec<u16>>, OutOfMemory> {
+    let lowest = lowest_in_front(alloc, rows)?;
     let mut done = Vec::with_capacity(alloc, rows.len())?;
     let mut layers = Vec::with_capacity(alloc, rows.len())?;
     let mut top: Option<Spot> = None;
     for (i, row) in rows.iter().enumerate() {
-        let Some(spot) = spot_of(row, top, &done, &rows[i + 1..]) else {
+        let between = Between {
+            top,
+            gap: gap_of(top, lowest.get(i)),
+        };
+        let Some(spot) = spot_of(row, between, &done, &rows[i + 1..]) else {
             return Ok(None);
         };
         top = Some(over_both(top, spot));
@@ -179,48 +184,94 @@ fn raise_all(alloc: Global, rows: &[OrderRow]) -> Result<Option<Vec<u16>>, OutOf
     Ok(Some(layers))
 }
 
+/// What is known of all figures behind one, and of all kept ones in front of it.
+#[derive(Clone, Copy)]
+struct Between {
+    /// What is above this spot is above all that is behind.
+    top: Option<Spot>,
+    /// A layer above all that is behind and beneath the kept ones in front, if there is one.
+    gap: Option<u16>,
+}
+
+/// A layer above the top, and beneath the lowest layer of the kept figures in front.
+fn gap_of(top: Option<Spot>, lowest: Option<&Option<u16>>) -> Option<u16> {
+    let low = match top {
+        Some(top) => Some(top.layer),
+        None => None,
+    };
+    match lowest {
+        Some(high) => room(low, *high),
+        None => None,
+    }
+}
+
+/// For each row the lowest layer of the kept figures in front of it, if there is one.
+fn lowest_in_front(alloc: Global, rows: &[OrderRow]) -> Result<Vec<Option<u16>>, OutOfMemory> {
+    let mut lowest = Vec::with_capacity(alloc, rows.len())?;
+    let mut least: Option<u16> = None;
+    for row in rows.iter().rev() {
+        lowest.push(least)?;
+        if let (Staying::Kept, Some(spot)) = (row.staying, row.spot) {
+            least = Some(least.unwrap_or(TOP).min(spot.layer));
+        }
+    }
+    lowest.reverse();
+    Ok(lowest)
+}
+
 /// Where a figure goes, between those behind it, which are done, and those in front of it.
-/// What is above `top` is above all that is done.
 fn spot_of(
     row: &OrderRow,
-    top: Option<Spot>,
+    between: Between,
     done: &[(Look, Spot)],
     front: &[OrderRow],
 ) -> Option<Spot> {
     if let Some(spot) = row.spot {
-        let is_on_top = match top {
+        let is_on_top = match between.top {
             Some(top) => is_above(spot, top),
             None => true,
         };
-        if (is_on_top || is_over(spot, row, done, true)) && stays(spot, row, done, front) {
+        if (is_on_top || is_over(spot, row, done, true)) && stays(spot, row, between, done, front) {
             return Some(spot);
         }
     }
     Some(Spot {
-        layer: new_layer(row, done, front)?,
+        layer: new_layer(row, between, done, front)?,
         rank: None,
     })
 }
 
 /// The layer of a figure that gets a new one, between all others or those that matter.
-fn new_layer(row: &OrderRow, done: &[(Look, Spot)], front: &[OrderRow]) -> Option<u16> {
-    if let Some(layer) = between(row, done, front, false) {
+fn new_layer(
+    row: &OrderRow,
+    between: Between,
+    done: &[(Look, Spot)],
+    front: &[OrderRow],
+) -> Option<u16> {
+    if let Some(layer) = between.gap {
         return Some(layer);
     }
-    if let Some(layer) = between(row, done, front, true) {
+    let behind = highest_behind(row, done);
+    if let Some(layer) = room(behind, lowest_that_matters(row, front)) {
         return Some(layer);
     }
-    next_above(highest_behind(row, done, true))
+    next_above(behind)
 }
 
 /// Whether a figure that is above those behind it that matter stays where it stands.
-fn stays(spot: Spot, row: &OrderRow, done: &[(Look, Spot)], front: &[OrderRow]) -> bool {
+fn stays(
+    spot: Spot,
+    row: &OrderRow,
+    between: Between,
+    done: &[(Look, Spot)],
+    front: &[OrderRow],
+) -> bool {
     match row.staying {
         Staying::Kept => true,
         Staying::Unwritten => is_under(spot, row, front, true),
         Staying::Moved => {
             is_over(spot, row, done, false) && is_under(spot, row, front, false)
-                || is_under(spot, row, front, true) && between(row, done, front, false).is_none()
+                || between.gap.is_none() && is_under(spot, row, front, true)
         }
     }
 }
@@ -249,35 +300,28 @@ fn next_above(layer: Option<u16>) -> Option<u16> {
     }
 }
 
-/// The highest layer of the figures behind, or of those that matter.
-fn highest_behind(row: &OrderRow, done: &[(Look, Spot)], matters: bool) -> Option<u16> {
+/// The highest layer of the figures behind that matter.
+fn highest_behind(row: &OrderRow, done: &[(Look, Spot)]) -> Option<u16> {
     let mut highest = None;
     for (look, spot) in done {
-        if !matters || matter(row.look, *look) {
+        if matter(row.look, *look) {
             highest = highest.max(Some(spot.layer));
         }
     }
     highest
 }
 
-/// A layer above the figures behind and beneath the kept ones in front, if there is one: of those
-/// that matter, or of all.
-fn between(
-    row: &OrderRow,
-    done: &[(Look, Spot)],
-    front: &[OrderRow],
-    matters: bool,
-) -> Option<u16> {
-    let low = highest_behind(row, done, matters);
-    let mut high: Option<u16> = None;
+/// The lowest layer of the kept figures in front that matter.
+fn lowest_that_matters(row: &OrderRow, front: &[OrderRow]) -> Option<u16> {
+    let mut lowest: Option<u16> = None;
     for other in front {
         if let (Staying::Kept, Some(spot)) = (other.staying, other.spot) {
-            if !matters || matter(row.look, other.look) {
-                high = Some(high.unwrap_or(TOP).min(spot.layer));
+            if matter(row.look, other.look) {
+                lowest = Some(lowest.unwrap_or(TOP).min(spot.layer));
             }
         }
     }
-    room(low, high)
+    lowest
 }
 
 /// A layer between two others, if there is one: in the middle, or ten away from the one that is

@@ -1,8 +1,9 @@
-//! Where the versions of each object stand in a list.
+//! The versions that a history shows, found by their objects.
 
 use gf_base::OutOfMemory;
 use gf_ops::ObjectId;
 use gf_shape::AnyShape;
+use gf_table::IndexedHistory;
 use gf_versions::Placed;
 use std::alloc::Global;
 
@@ -11,6 +12,21 @@ use std::alloc::Global;
 pub(crate) struct Rank {
     pub(crate) object: ObjectId,
     pub(crate) index: usize,
+}
+
+/// The versions that a history shows, topmost first, and their ranks by object.
+#[derive(Clone, Copy)]
+pub(crate) struct ShownVersions<'a> {
+    pub(crate) history: &'a IndexedHistory,
+    pub(crate) versions: &'a [Placed<AnyShape>],
+    pub(crate) ranks: &'a [Rank],
+}
+
+impl<'a> ShownVersions<'a> {
+    /// The ranks of the versions of an object.
+    pub(crate) fn of_object(self, object: ObjectId) -> &'a [Rank] {
+        ranks_of(self.ranks, object)
+    }
 }
 
 /// The ranks of versions, by object and then by index.

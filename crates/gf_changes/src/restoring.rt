@@ -2,13 +2,14 @@
 
 use crate::Target;
 use crate::aiming::{MOST_AIMED, aim_to_keep};
-use crate::altering::shown;
+use crate::altering::set_shown;
 use crate::comparing::is_alike;
 use crate::matching::is_named;
 use crate::ranks::{Rank, ranks_by_object, ranks_of};
 use gf_base::OutOfMemory;
-use gf_ops::{Change, History, ObjectId};
+use gf_ops::{Change, ObjectId};
 use gf_shape::AnyShape;
+use gf_table::IndexedHistory;
 use gf_versions::{Placed, Version};
 use std::alloc::Global;
 
@@ -49,7 +50,7 @@ fn object_not_shown(
 /// that has the figure's name and looks like it.
 pub fn showing_again(
     alloc: Global,
-    history: &History,
+    history: &IndexedHistory,
     versions: &[Version],
     figure: &Target,
 ) -> Result<Option<Change>, OutOfMemory> {
@@ -59,7 +60,7 @@ pub fn showing_again(
             if MOST_AIMED < aim.as_slice().len() {
                 return Ok(None);
             }
-            return Ok(Some(shown(version.key.object, true, aim)));
+            return Ok(Some(set_shown(version.key.object, true, aim)));
         }
     }
     Ok(None)
