@@ -7,8 +7,8 @@
 # with these. Each picture that the file pictures names, with its lines and its window, is painted anew and compared.
 # What an import makes of house.fig is compared with imported.jsonl; what plain.awk makes and tells of a drawing, by each
 # awk, with NAME.plain.fig, NAME.txt and NAME.groups, and what site 2 takes of it, beside the lines of the example named,
-# with NAME.jsonl. Random drawings are changed and taken, others made plain. Last README, DRAWING, CONFLICTS, FORMATS and
-# by-git are typed, and the scripts of draw and week are run.
+# with NAME.jsonl. Random drawings are changed and taken, others made plain. Last README, DRAWING, CONFLICTS, FORMATS,
+# STRANGERS and by-git are typed, and the scripts of draw and week are run.
 set -eu
 examples=$(cd "$(dirname "$0")" && pwd)
 root=$(dirname "$examples")
@@ -291,8 +291,12 @@ export FIG_EDITOR="cp $examples/tutorial/saved/site-\$(cat site)-\$(wc -l < site
 for folder in "$examples"/xfig/*/; do
     compare_taken "${folder%/}"
 done
-compare "README" /dev/null python3 "$tools/transcript.py" "$root/README.md" "$root"
-for page in DRAWING CONFLICTS FORMATS; do
+if command -v fig2dev > /dev/null; then
+    compare "README" /dev/null python3 "$tools/transcript.py" "$root/README.md" "$root"
+else
+    echo "README: skipped, as there is no fig2dev"
+fi
+for page in DRAWING CONFLICTS FORMATS STRANGERS; do
     compare "$page" /dev/null python3 "$tools/transcript.py" "$root/docs/$page.md" "$root"
 done
 if command -v git > /dev/null; then
