@@ -1,5 +1,5 @@
-//! What is wrong with operation lines, and with commands of a site that edits: all that a run over
-//! them would refuse, each explained.
+//! What is wrong with operation lines, and with commands of a site that edits: each line and each
+//! operation that a run over them would refuse, explained.
 //!
 //! - [`check_run`]: reads lines, writes a line for each fault, and answers a [`Verdict`].
 //! - [`faults_of`]: a line for each fault of a text, in the order in which they are met.

@@ -1,5 +1,5 @@
-//! What is wrong with a FIG text: its faults at once, each with the object that has it, and what to
-//! do.
+//! What is wrong with a FIG text: up to 64 of its faults at once, each with the object that has it,
+//! and what to do.
 //!
 //! - [`drawing_faults`]: the faults of a text, in the order of their lines.
 //! - [`DrawingFaults`], [`DrawingFault`]: the faults, and one of them, as they are told.
