@@ -9,6 +9,7 @@ ghost use Rattle.gf_ops.specs.Limits.{IsInRange};
 ghost use Rattle.gf_ops.specs.OperationOrder.{IsSite};
 ghost use Rattle.gf_ops.specs.declared.op.Op.{Op};
 ghost use Rattle.gf_take_run.specs.ShownText.{IsShownText, IsTextOf};
+ghost use Rattle.gf_take_run.specs.LeavingSteps.{AreNamesAt};
 ghost use Rattle.gf_take_run.specs.TakenText.{DenotesDrawing};
 ghost use Rattle.gf_take_run.specs.TakeSteps.{AreListed, MakesBehind, RefusesBehind};
 
@@ -52,6 +53,7 @@ pub(crate) fn make_behind(
     requires number { taker.number ≡ request.site }
     requires drawn { DenotesDrawing fig.now drawn.now.drawing drawn.now.seen }
     requires named { AreNamed fig.now drawn.now.drawing drawn.now.names.items }
+    requires places { AreNamesAt drawn.now.names.items drawn.now.places.entries }
     ensures ok { IfOk result
         (MakesBehind request taker.ops fig.now drawn.now.drawing drawn.now.seen) }
     ensures refused { IfErr result

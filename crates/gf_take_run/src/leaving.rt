@@ -6,31 +6,36 @@ ghost use Rattle.gf_shape.specs.ShapeLaws.{IsLawful};
 ghost use Rattle.std.specs.List.{AllZip};
 ghost use Rattle.gf_ops.specs.declared.op.Op.{Op};
 ghost use Rattle.gf_fig_named.specs.NamedFigures.{AreNamed};
+ghost use Rattle.gf_fig_named.specs.Places.{ArePlaces};
 ghost use Rattle.gf_fig_named.specs.NamedText.{IsNameOf};
 ghost use Rattle.gf_versions.specs.Ranking.{AreRanked};
 ghost use Rattle.gf_take_run.specs.LeftObjects.{LeavesStanding, changed_look, is_layer};
-ghost use Rattle.gf_take_run.specs.LeavingSteps.{HasNoFigure, IsFigureAt, IsMeant};
+ghost use Rattle.gf_take_run.specs.LeavingSteps.{AreNamesAt, HasNoFigure, IsFigureAt, IsMeant};
 
 use crate::reading::ReadDrawing;
 use crate::showing::{has_version, is_of};
 use gf_base::OutOfMemory;
-use gf_fig_named::Name;
+use gf_fig_named::{Name, Places};
 use gf_ops::{Change, Ids, ObjectId, Op, Value};
 use gf_shape::AnyShape;
+use gf_table::positions_at;
 use gf_take::version_looks_like;
 use gf_versions::Placed;
 use std::alloc::Global;
 
 /// Whether operations give nothing but layers to an object each of whose versions has in the
-/// drawing a figure of its name that looks like it. Each version has its name.
+/// drawing a figure of its name that looks like it. Each version has its name and its place.
 pub(crate) fn leave_standing(
     alloc: Global,
     shown: &[Placed<AnyShape>],
+    places: &Places,
     own: &[Name],
     drawn: &ReadDrawing,
     ops: &[Op],
 ) -> Result<bool, OutOfMemory>
     requires long { length own.now ≡ length shown.now }
+    requires places { ArePlaces shown.now (length shown.now) places.now }
+    requires named { AreNamesAt drawn.now.names.items drawn.now.places.entries }
     requires lawful { All (λ f. IsLawful f.shape) drawn.now.drawing.figures }
     ensures { (h : List Op) (fig : List ℕ) → AreRanked h shown.now
         → AllZip (IsNameOf h shown.now) shown.now own.now
@@ -39,7 +44,7 @@ pub(crate) fn leave_standing(
         → All (λ a. LeavesStanding h fig drawn.now.drawing a.change) ops.now) }
 {
     for op in ops {
-        if !is_meant(alloc, shown, own, drawn, &op.change)? {
+        if !is_meant(alloc, shown, places, own, drawn, &op.change)? {
             return Ok(false);
         }
     }
@@ -51,11 +56,14 @@ pub(crate) fn leave_standing(
 fn is_meant(
     alloc: Global,
     shown: &[Placed<AnyShape>],
+    places: &Places,
     own: &[Name],
     drawn: &ReadDrawing,
     change: &Change,
 ) -> Result<bool, OutOfMemory>
     requires long { length own.now ≡ length shown.now }
+    requires places { ArePlaces shown.now (length shown.now) places.now }
+    requires named { AreNamesAt drawn.now.names.items drawn.now.places.entries }
     requires lawful { All (λ f. IsLawful f.shape) drawn.now.drawing.figures }
     ensures { IfOk result (λ meant. meant ≡ true → IsMeant drawn.now.drawing drawn.now.names.items
         shown.now own.now change.now) }
@@ -63,10 +71,10 @@ fn is_meant(
     match changed_look(change) {
         None => Ok(true),
         Some(object) => {
-            if !has_version(shown, object) {
+            if !has_version(shown, places, object) {
                 return Ok(true);
             }
-            lacks_figure(alloc, shown, own, drawn, object)
+            lacks_figure(alloc, shown, places, own, drawn, object)
         }
     }
 }
@@ -95,17 +103,20 @@ fn is_layer(value: &Value) -> bool
 fn lacks_figure(
     alloc: Global,
     shown: &[Placed<AnyShape>],
+    places: &Places,
     own: &[Name],
     drawn: &ReadDrawing,
     object: ObjectId,
 ) -> Result<bool, OutOfMemory>
     requires long { length own.now ≡ length shown.now }
+    requires places { ArePlaces shown.now (length shown.now) places.now }
+    requires named { AreNamesAt drawn.now.names.items drawn.now.places.entries }
     requires lawful { All (λ f. IsLawful f.shape) drawn.now.drawing.figures }
     ensures { IfOk result (λ lacks. lacks ≡ true → HasNoFigure drawn.now.drawing
         drawn.now.names.items shown.now own.now object) }
 {
-    for index in 0..shown.len() {
-        let (item, name) = (&shown[index], &own[index]);
+    for place in places.at(object) {
+        let (item, name) = (&shown[*place], &own[*place]);
         if is_of(item, object) && !has_figure(alloc, item, name, drawn)? {
             return Ok(true);
         }
@@ -120,12 +131,13 @@ fn has_figure(
     name: &Name,
     drawn: &ReadDrawing,
 ) -> Result<bool, OutOfMemory>
-    requires { All (λ f. IsLawful f.shape) drawn.now.drawing.figures }
+    requires lawful { All (λ f. IsLawful f.shape) drawn.now.drawing.figures }
+    requires named { AreNamesAt drawn.now.names.items drawn.now.places.entries }
     ensures { IfOk result (λ has. has ≡ false → (k : ℕ)
         → ¬ (IsFigureAt drawn.now.drawing drawn.now.names.items item.now name.now k)) }
 {
-    for index in 0..drawn.names.len() {
-        if is_figure(alloc, item, name, drawn, index)? {
+    for index in positions_at(&drawn.places, name.object) {
+        if is_figure(alloc, item, name, drawn, *index)? {
             return Ok(true);
         }
     }

@@ -3,6 +3,7 @@
 ghost use Rattle.std.specs.Prelude.{◌≡◌, ◌≤◌, IfErr, IfNone, IfOk, IfSome};
 ghost use Rattle.gf_ops.specs.OperationOrder.{count_of};
 ghost use Rattle.gf_fig_named.specs.NamedFigures.{AreNamed};
+ghost use Rattle.gf_take_run.specs.LeavingSteps.{AreNamesAt};
 ghost use Rattle.gf_take_run.specs.TakenText.{DenotesDrawing};
 ghost use Rattle.gf_take_run.specs.TakeSteps.{AreListed, IsBeyondMost, MakesFrom, MakesOther};
 ghost use Rattle.gf_take_run.specs.TakeSteps.{RefusesBase, RefusesPlan};
@@ -12,7 +13,7 @@ use crate::leaving::leave_standing;
 use crate::planning::{Making, make_planned};
 use crate::reading::ReadDrawing;
 use crate::showing::{Shown, are_on_shown, shown_by};
-use gf_fig_named::names_of;
+use gf_fig_named::{Places, names_of};
 use gf_kept::KeptSite;
 use gf_ops::{ObjectId, Op, OpId};
 use gf_shape::AnyShape;
@@ -41,6 +42,7 @@ pub(crate) fn make_from(
 ) -> Result<MadeFrom, DrawingError>
     requires drawn { DenotesDrawing fig.now drawn.now.drawing drawn.now.seen }
     requires named { AreNamed fig.now drawn.now.drawing drawn.now.names.items }
+    requires places { AreNamesAt drawn.now.names.items drawn.now.places.entries }
     ensures ok { IfOk result (MakesFrom base.number after base.ops fig.now drawn.now.drawing) }
     ensures refused { IfErr result
         (RefusesBase base.number after base.ops fig.now drawn.now.drawing) }
@@ -72,6 +74,7 @@ fn make_other(
     requires listed { AreListed base.ops shown.versions }
     requires drawn { DenotesDrawing fig.now drawn.now.drawing drawn.now.seen }
     requires named { AreNamed fig.now drawn.now.drawing drawn.now.names.items }
+    requires places { AreNamesAt drawn.now.names.items drawn.now.places.entries }
     ensures ok { IfOk result (MakesOther base.number base.ops fig.now drawn.now.drawing) }
     ensures thin { IfOk result (λ made. made.thin ≡ shown.thin) }
     ensures refused { IfErr result
@@ -79,15 +82,23 @@ fn make_other(
 {
     let Shown { versions, thin } = shown;
     let names = names_of(alloc, base.history(), &versions.items)?;
+    let places = Places::of(alloc, &versions.items)?;
     let mut making = Making {
         site: base,
         ops: Vec::new(alloc),
     };
     let last = make_planned(alloc, &mut making, fig, &versions.items, drawn)?;
-    if !are_on_shown(alloc, fig, &making.ops, &versions.items)? {
+    if !are_on_shown(
+        alloc,
+        fig,
+        &drawn.names,
+        &making.ops,
+        &versions.items,
+        &places,
+    )? {
         return Err(DrawingError::Differs);
     }
-    if !leave_standing(alloc, &versions.items, &names, drawn, &making.ops)? {
+    if !leave_standing(alloc, &versions.items, &places, &names, drawn, &making.ops)? {
         return Err(DrawingError::Differs);
     }
     let shown = last.unwrap_or(versions);

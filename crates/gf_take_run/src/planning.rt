@@ -33,9 +33,11 @@ use gf_objects::{object_of, start_fault, start_of};
 use gf_ops::{Change, ObjectId, Op};
 use gf_shape::{AnyShape, Outline};
 use gf_site::AuthorFault;
+use gf_table::{Positions, positions_at, push_position};
 use gf_take::make_all;
 use gf_versions::{MOST_VERSIONS, Placed, Ranked, Version};
 use std::alloc::Global;
+use std::collections::BTreeMap;
 
 /// A site at work behind its base, with the operations that it made there.
 #[derive(Drop)]
@@ -100,7 +102,7 @@ fn make_matched(
     }
     let altered = alterations(
         alloc,
-        making.site.history(),
+        making.site.indexed(),
         before,
         &drawn.targets,
         &matching,
@@ -138,7 +140,7 @@ fn make_arranged(
 {
     let changes = arranged(
         alloc,
-        making.site.history(),
+        making.site.indexed(),
         before,
         after,
         targets,
@@ -248,46 +250,61 @@ fn restorations(
     targets: &[Target],
 ) -> Result<Vec<Change>, OutOfMemory> {
     let wanted = objects_not_shown(alloc, shown, targets)?;
+    let figures = figures_of(alloc, &wanted)?;
     let mut changes = Vec::new(alloc);
-    let mut objects: Vec<ObjectId> = Vec::new(alloc);
-    for object in wanted.iter() {
+    for (index, object) in wanted.iter().enumerate() {
         if let Some(object) = *object {
-            if !objects.contains(&object) {
-                objects.push(object)?;
-                restore(alloc, base, object, targets, &wanted, &mut changes)?;
+            let of_object = positions_at(&figures, object);
+            if of_object.first() == Some(&index) {
+                let mut more = restored(alloc, base, object, targets, of_object)?;
+                changes.append(&mut more)?;
             }
         }
     }
     Ok(changes)
 }
 
-/// Adds the changes that show versions of an object again, where figures that want it look like
+/// For each object the indices of the figures that want it.
+fn figures_of(
+    alloc: Global,
+    wanted: &[Option<ObjectId>],
+) -> Result<BTreeMap<ObjectId, Positions>, OutOfMemory> {
+    let mut figures = BTreeMap::new(alloc);
+    for (index, object) in wanted.iter().enumerate() {
+        if let Some(object) = *object {
+            push_position(alloc, &mut figures, object, index)?;
+        }
+    }
+    Ok(figures)
+}
+
+/// The changes that show versions of an object again, where figures at these indices look like
 /// them. An object of more versions than a drawing has stays hidden.
-fn restore(
+fn restored(
     alloc: Global,
     base: &KeptSite,
     object: ObjectId,
     targets: &[Target],
-    wanted: &[Option<ObjectId>],
-    changes: &mut Vec<Change>,
-) -> Result<(), OutOfMemory> {
+    figures: &[usize],
+) -> Result<Vec<Change>, OutOfMemory> {
+    let mut changes = Vec::new(alloc);
     if !is_made(base.history(), object) {
-        return Ok(());
+        return Ok(changes);
     }
     if MOST_VERSIONS < Versions::of(base.indexed()).count(alloc, object)? {
-        return Ok(());
+        return Ok(changes);
     }
     let versions = match versions_with(alloc, &Versions::of(base.indexed()), object) {
         Ok(versions) => versions,
-        Err(GroupFault::NoObject) => return Ok(()),
+        Err(GroupFault::NoObject) => return Ok(changes),
         Err(GroupFault::OutOfMemory) => return Err(OutOfMemory),
     };
-    for (figure, wish) in targets.iter().zip(wanted.iter()) {
-        if *wish == Some(object) {
-            show_again(alloc, base, &versions, figure, changes)?;
+    for index in figures {
+        if let Some(figure) = targets.get(*index) {
+            show_again(alloc, base, &versions, figure, &mut changes)?;
         }
     }
-    Ok(())
+    Ok(changes)
 }
 
 /// Adds the change that shows one of these versions again, where one looks like the figure and is
@@ -299,7 +316,7 @@ fn show_again(
     figure: &Target,
     changes: &mut Vec<Change>,
 ) -> Result<(), OutOfMemory> {
-    if let Some(change) = showing_again(alloc, base.history(), versions, figure)? {
+    if let Some(change) = showing_again(alloc, base.indexed(), versions, figure)? {
         if !has_change(changes, &change) {
             changes.push(change)?;
         }

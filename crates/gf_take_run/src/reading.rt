@@ -10,6 +10,7 @@ ghost use Rattle.gf_take.specs.Bases.{AreRead};
 ghost use Rattle.gf_site.specs.SiteState.{at_site};
 ghost use Rattle.gf_take_run.specs.TakenText.{DenotesDrawing, DenotesLines};
 ghost use Rattle.gf_take_run.specs.TakeRun.{RefusesFigText, RefusesParts, of_take};
+ghost use Rattle.gf_take_run.specs.LeavingSteps.{AreNamesAt};
 ghost use Rattle.gf_take_run.specs.declared.request.TakeRequest.{TakeRequest};
 
 use crate::{TakeRequest, TakeRunError};
@@ -21,13 +22,15 @@ use gf_fig_named::{Named, read_names};
 use gf_fig_read::read_fig;
 use gf_figures::Drawing;
 use gf_objects::{start_fault, start_of};
-use gf_ops::Clock;
+use gf_ops::{Clock, ObjectId};
 use gf_replay::read_replica;
 use gf_run::StudioError;
 use gf_shape::Outline;
 use gf_site::{Replica, Site};
+use gf_table::{Positions, push_position};
 use gf_versions::MOST_VERSIONS;
 use std::alloc::Global;
+use std::collections::BTreeMap;
 use std::thread::Threads;
 
 /// The site that has the operations of these lines, where nothing that waits blocks it.
@@ -79,6 +82,8 @@ pub(crate) struct ReadDrawing {
     pub(crate) drawing: Drawing<Outline>,
     /// What the comments above each figure name, in file order.
     pub(crate) names: Vec<Option<Named>>,
+    /// For each object the indices of the names of its figures.
+    pub(crate) places: BTreeMap<ObjectId, Positions>,
     pub(crate) targets: Vec<Target>,
     pub(crate) seen: Clock,
 }
@@ -87,6 +92,7 @@ pub(crate) struct ReadDrawing {
 pub(crate) fn read_drawing(alloc: Global, fig: &[u8]) -> Result<ReadDrawing, TakeRunError>
     ensures ok { IfOk result (λ read. DenotesDrawing fig.now read.drawing read.seen) }
     ensures named { IfOk result (λ read. AreNamed fig.now read.drawing read.names.items) }
+    ensures places { IfOk result (λ read. AreNamesAt read.names.items read.places.entries) }
     ensures refused { (q : TakeRequest) (known h : List Op) → AreRead q.site known h
         → IfErr result (RefusesFigText q known fig.now) }
     ensures between { IfErr result (λ e. IfSome (of_take e) IsBetween) }
@@ -103,12 +109,30 @@ pub(crate) fn read_drawing(alloc: Global, fig: &[u8]) -> Result<ReadDrawing, Tak
         return Err(TakeRunError::Unnamed);
     };
     let targets = targets_of(alloc, &drawing, &names.figures)?;
+    let places = places_of(alloc, &names.figures)?;
     Ok(ReadDrawing {
         drawing,
         names: names.figures,
+        places,
         targets,
         seen,
     })
+}
+
+/// For each object the indices of the names of its figures.
+fn places_of(
+    alloc: Global,
+    names: &[Option<Named>],
+) -> Result<BTreeMap<ObjectId, Positions>, OutOfMemory>
+    ensures { IfOk result (λ places. AreNamesAt names.now places.entries) }
+{
+    let mut places = BTreeMap::new(alloc);
+    for (index, name) in names.iter().enumerate() {
+        if let Some(named) = name {
+            push_position(alloc, &mut places, named.name.object, index)?;
+        }
+    }
+    Ok(places)
 }
 
 /// The figures of a drawing from the front to the back, with these names in file order.

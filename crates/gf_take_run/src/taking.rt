@@ -7,6 +7,7 @@ ghost use Rattle.gf_ops.specs.OperationOrder.{IsSite};
 ghost use Rattle.gf_run.specs.RefusedRuns.{IsBetween};
 ghost use Rattle.gf_edit.specs.MadeOperations.{made_of};
 ghost use Rattle.gf_ops.specs.declared.op.Op.{Op};
+ghost use Rattle.gf_take_run.specs.LeavingSteps.{AreNamesAt};
 ghost use Rattle.gf_take_run.specs.TakenText.{DenotesDrawing};
 ghost use Rattle.gf_take_run.specs.TakeRun.{RefusesFigText, RefusesParts, RefusesTaking};
 ghost use Rattle.gf_take_run.specs.TakeRun.{TakesText, of_take};
@@ -32,7 +33,6 @@ use gf_ops::Op;
 use gf_run::Answer;
 use gf_site::Replica;
 use std::alloc::Global;
-use std::mem;
 use std::thread::Threads;
 
 /// What a site takes of these bytes: operation lines, and a FIG text behind them.
@@ -82,13 +82,12 @@ fn take_parts<T: Threads + Sync>(
 pub fn take_behind(
     alloc: Global,
     replica: Replica,
-    kept: &mut KeptVersions,
+    kept: KeptVersions,
     fig: &[u8],
     request: TakeRequest,
 ) -> Result<TakenDrawing, TakeRunError>
     requires site { IsSite request.site }
-    requires keeps { Keeps replica.ops kept.old }
-    ensures keeps { Keeps replica.ops kept.new }
+    requires keeps { Keeps replica.ops kept }
     ensures ok { (known : List Op) → Divides known replica.ops replica.held
         → IfOk result (λ t. TakesBehind request known replica.ops fig.now t.ops.items t.answer) }
     ensures site { IfOk result (λ t. t.site.ops ≡ replica.ops ++ t.ops.items) }
@@ -97,7 +96,6 @@ pub fn take_behind(
 {
     let taker = taker_of(alloc, replica, request.site)?;
     let drawn = read_drawing(alloc, fig)?;
-    let kept = mem::replace(kept, KeptVersions::new(alloc));
     let taker = KeptSite::new(taker, kept);
     Ok(take_drawing(alloc, taker, fig, &drawn, request)?)
 }
@@ -123,6 +121,7 @@ fn take_drawing(
     requires number { taker.number ≡ request.site }
     requires drawn { DenotesDrawing fig.now drawn.now.drawing drawn.now.seen }
     requires named { AreNamed fig.now drawn.now.drawing drawn.now.names.items }
+    requires places { AreNamesAt drawn.now.names.items drawn.now.places.entries }
     ensures ok { IfOk result (λ t. TakesSo request taker.ops fig.now drawn.now.drawing
         drawn.now.seen t.ops.items t.answer) }
     ensures site { IfOk result (λ t. t.site.ops ≡ taker.ops ++ t.ops.items) }

@@ -8,6 +8,7 @@ use Rattle.gf_shape.specs.declared.any_shape.AnyShape.{AnyShape}
 use Rattle.gf_versions.specs.declared.placed.Placed.{Placed}
 use Rattle.gf_versions.specs.Ranking.{AreRanked}
 use Rattle.gf_fig_named.specs.NamedText.{IsNameOf}
+use Rattle.gf_fig_named.specs.Places.{ArePlaces}
 use Rattle.gf_fig_named.specs.declared.naming.Name.{Name}
 use Rattle.gf_fig_read.proofs.LawfulLemmas.{lawful_read}
 use Rattle.gf_take_run.specs.ChangedObjects.{MayChange}
@@ -19,12 +20,22 @@ pub leave_standing-requires-clause-lawful : goal.leave_standing-requires-clause-
 leave_standing-requires-clause-lawful c =
     lawful_read c.args.fig.now c.args.drawn.now.drawing c.requires.drawn.reads
 
+pub are_on_shown-requires : goal.are_on_shown-requires
+are_on_shown-requires c =
+    subst (λ (is : List (Placed AnyShape)). ArePlaces is (length is) c.in_ok-places.places)
+    (c.deref-2.ensures.value ∙ sym c.deref-6.ensures.value) c.in_ok-places.ensures
+
+pub leave_standing-requires-clause-places : goal.leave_standing-requires-clause-places
+leave_standing-requires-clause-places c =
+    subst (λ (is : List (Placed AnyShape)). ArePlaces is (length is) c.in_ok-places.places)
+    (c.deref-2.ensures.value ∙ sym c.deref-7.ensures.value) c.in_ok-places.ensures
+
 pub leave_standing-requires-clause-long : goal.leave_standing-requires-clause-long
 leave_standing-requires-clause-long c =
-    ap length c.deref-6.ensures.value
+    ap length c.deref-8.ensures.value
     ∙ (AllZip-long (IsNameOf c.history.result.now.ops c.deref.result.now) c.deref.result.now
     c.in_ok-names.names.items c.in_ok-names.ensures
-    ∙ (ap length c.deref.ensures.value ∙ sym (ap length c.deref-5.ensures.value)))
+    ∙ (ap length c.deref.ensures.value ∙ sym (ap length c.deref-7.ensures.value)))
 
 pub returns-in_err-last-clause-refused : goal.returns-in_err-last-clause-refused
 returns-in_err-last-clause-refused c =
@@ -44,20 +55,20 @@ returns-clause-ok c =
     let first = making_first s b _ refl refl c.new.ensures.items in
     let listed = listed_last _ m c.in_ok-last.last c.args.shown.versions c.unwrap_or-shown.result
     c.in_ok-last.ensures.listed c.requires.listed c.unwrap_or-shown.ensures in
-    let now = subst (AreRanked m.site.ops) (sym c.deref-8.ensures.value) listed.ranked in
+    let now = subst (AreRanked m.site.ops) (sym c.deref-10.ensures.value) listed.ranked in
     let valid = c.recall_history.ensures.valid in
-    let on = subst (AreRanked b) (sym c.deref-4.ensures.value) c.requires.listed.ranked in
-    let may = subst (All (λ (a : Op). MayChange b fig a.change)) c.deref-3.ensures.value
+    let on = subst (AreRanked b) (sym c.deref-6.ensures.value) c.requires.listed.ranked in
+    let may = subst (All (λ (a : Op). MayChange b fig a.change)) c.deref-5.ensures.value
     (c.in_ok-are_on_shown.ensures b on c.if-not-branch.false) in
-    let beside = subst (AreRanked b) (sym c.deref-5.ensures.value) c.requires.listed.ranked in
-    let items = c.deref-5.result.now in
+    let beside = subst (AreRanked b) (sym c.deref-7.ensures.value) c.requires.listed.ranked in
+    let items = c.deref-7.result.now in
     let named =
-    subst (λ (ns : List Name). AllZip (IsNameOf b items) items ns) (sym c.deref-6.ensures.value)
+    subst (λ (ns : List Name). AllZip (IsNameOf b items) items ns) (sym c.deref-8.ensures.value)
     (subst (λ (is : List (Placed AnyShape)). AllZip (IsNameOf b is) is names)
-    (c.deref.ensures.value ∙ sym c.deref-5.ensures.value)
+    (c.deref.ensures.value ∙ sym c.deref-7.ensures.value)
     (subst (λ (h : List Op). AllZip (IsNameOf h c.deref.result.now) c.deref.result.now names)
     c.history.ensures.ops c.in_ok-names.ensures)) in
-    let standing = subst (All (λ (a : Op). LeavesStanding b fig d a.change)) c.deref-7.ensures.value
+    let standing = subst (All (λ (a : Op). LeavesStanding b fig d a.change)) c.deref-9.ensures.value
     (c.in_ok-leave_standing.ensures b fig beside named c.requires.named c.if-not-branch-2.false) in
     makes_other s b fig d m _ (c.in_ok-last.ensures.made s b first) refl refl
     c.recall_history.ensures.accepted valid

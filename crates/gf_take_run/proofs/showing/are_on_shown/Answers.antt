@@ -1,3 +1,4 @@
+use Rattle.std.proofs.Common.{List, subst}
 use Rattle.gf_ops.specs.declared.op.Op.{Op}
 use Rattle.gf_take_run.specs.ShownItems.{IsOnOne}
 use Rattle.gf_take_run.proofs.LeavingLemmas.{all_more}
@@ -12,4 +13,5 @@ pub loop-op-preserved : goal.loop-op-preserved
 loop-op-preserved c =
     all_more (λ (a : Op). IsOnOne c.args.shown.now c.args.fig.now a.change) c.args.ops.now
     c.loop-op.op-index c.op-item.result c.loop-op-test.true c.op-item.is
-    c.loop-op.invariant (c.in_ok-is_on_shown.ensures c.if-not-branch.false)
+    c.loop-op.invariant
+    (c.is_on_shown.ensures c.args.fig.now c.in_ok-named.ensures c.if-not-is_on_shown.false)

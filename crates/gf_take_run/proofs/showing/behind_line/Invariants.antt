@@ -1,7 +1,7 @@
 use Rattle.std.proofs.Common.{length}
 use Rattle.std.specs.Prelude.{Contains}
 use Rattle.gf_fig_tokens.specs.Layout.{lines}
-use Rattle.gf_take_run.proofs.showing.has_line.Given as goal
+use Rattle.gf_take_run.proofs.showing.behind_line.Given as goal
 
 abbrev pub invariant-loop-line : goal.invariant-loop-line
 invariant-loop-line l = (line : _) → Contains (lines l.rest) line → Contains (lines l.fig) line

@@ -1,6 +1,6 @@
 use Rattle.std.proofs.Common.{subst, sym, ◌∙◌}
 use Rattle.gf_groups.specs.Versions.{IsMade}
-use Rattle.gf_take_run.proofs.planning.restore.Goals as goal
+use Rattle.gf_take_run.proofs.planning.restored.Goals as goal
 
 pub count-requires : goal.count-requires
 count-requires c =
