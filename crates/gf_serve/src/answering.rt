@@ -87,7 +87,7 @@ fn count(replica: &Replica) -> Option<usize>
     replica.history().ops().len().checked_add(replica.held())
 }
 
-/// Takes operations of a FIG text, as [`lines`] takes those of lines.
+/// Takes operations of a FIG text, as [`lines`] takes those of lines, by a copy of what was kept.
 pub(crate) fn take(
     alloc: Global,
     replicas: &mut TwoReplicas,
@@ -105,8 +105,11 @@ pub(crate) fn take(
     let Ok(copy) = replicas.copy(alloc) else {
         return Reply::Refused(Refusal::Take(TakeRunError::from(OutOfMemory)));
     };
+    let Ok(found) = kept.versions.copy(alloc) else {
+        return Reply::Refused(Refusal::Take(TakeRunError::from(OutOfMemory)));
+    };
     replicas.newest().recall_state();
-    match take_behind(alloc, copy, &mut kept.versions, &text.fig, text.request) {
+    match take_behind(alloc, copy, found, &text.fig, text.request) {
         Ok(taken) => {
             let TakenDrawing { ops, answer, site } = taken;
             let (site, found) = site.into_parts();
