@@ -1,11 +1,10 @@
 -- What the changes of a keep are made from. No public clause cites this module.
-use Rattle.std.specs.Prelude.{◌≡◌, ◌↔◌, ◌⊎◌, ◌∷◌, List, Contains, Bool}
+use Rattle.std.specs.Prelude.{◌≡◌, ◌↔◌, ◌∷◌, List, Contains, Bool}
 use Rattle.std.specs.List.{AllZip, list_all, list_any}
 use Rattle.gf_ops.specs.declared.op.Op.{Op}
 use Rattle.gf_ops.specs.declared.op.OpId.{OpId}
 use Rattle.gf_ops.specs.declared.op.ObjectId.{ObjectId}
 use Rattle.gf_ops.specs.declared.change.Change.{Change}
-use Rattle.gf_ops.specs.Attribute.{aim_of}
 use Rattle.gf_ops.specs.Version.{HasOn}
 use Rattle.gf_groups.specs.declared.group.Group.{Group}
 use Rattle.gf_groups.specs.VersionList.{id_eq}
@@ -22,23 +21,6 @@ AreOfObject o groups = (g : Group) → Contains groups g → g.object ≡ o
 -- the group g has all of the ids
 abbrev pub has_all : List OpId → Group → Bool
 has_all ids g = list_all (λ i. list_any (id_eq i) g.ops) ids
-
--- the operation of h under j aims at i
-pub record AimsAtId (h : List Op) (j i : OpId) : Type 0 where
-  pub op : Op
-  pub contained : Contains h op
-  pub id : op.id ≡ j
-  pub aimed : Contains (aim_of op) i
-
--- i is j, or the operation under j aims at it
-abbrev pub IsBrought : List Op → OpId → OpId → Type 0
-IsBrought h j i = (i ≡ j) ⊎ AimsAtId h j i
-
--- i is one of the ids, or the operation under one of them aims at it
-pub record IsBroughtFrom (h : List Op) (ids : List OpId) (i : OpId) : Type 0 where
-  pub from : OpId
-  pub listed : Contains ids from
-  pub brought : IsBrought h from i
 
 -- the changes hide the object o, and then show each of the groups, in their order
 pub record AreShowings (h : List Op) (o : ObjectId) (groups : List Group)

@@ -1,14 +1,14 @@
 //! What a change aims at that is meant for one version.
 
-ghost use Rattle.std.specs.Prelude.{◌≡◌, ◌↔◌, ◌⊎◌, Contains, IfOk, IsTrue, OnOk};
+ghost use Rattle.std.specs.Prelude.{◌≡◌, ◌↔◌, IfOk, IsTrue};
 ghost use Rattle.gf_ops.specs.Attribute.{object_of};
 ghost use Rattle.gf_ops.specs.declared.op.OpId.{OpId};
 ghost use Rattle.gf_keep.specs.Keeping.{AreAimedAt};
-ghost use Rattle.gf_keep.specs.KeepSteps.{AreIdsOn, IsBrought, IsBroughtFrom};
+ghost use Rattle.gf_keep.specs.KeepSteps.{AreIdsOn};
 
 use gf_base::OutOfMemory;
 use gf_groups::Group;
-use gf_names::{rising, telling};
+use gf_names::{aim_at, telling};
 use gf_ops::{History, Ids, ObjectId, Op, OpId};
 use std::alloc::Global;
 
@@ -37,7 +37,7 @@ fn is_on(op: &Op, object: ObjectId) -> bool
 }
 
 /// What tells the group from the operations on its object, with what that aims at.
-pub(crate) fn aim_at(
+pub(crate) fn aim_to_keep(
     alloc: Global,
     history: &History,
     group: &Group,
@@ -48,31 +48,5 @@ pub(crate) fn aim_at(
 {
     history.recall_valid();
     let marks = telling(alloc, history, group.ops.as_slice(), others)?;
-    let mut found = Vec::new(alloc);
-    add_all(history, marks.as_slice(), &mut found)?;
-    rising(alloc, &found)
-}
-
-/// Adds ids with what their operations aim at.
-fn add_all(history: &History, ids: &[OpId], found: &mut Vec<OpId>) -> Result<(), OutOfMemory>
-    ensures { OnOk result ((i : OpId) → Contains found.new.items i ↔ (Contains found.old.items i
-        ⊎ IsBroughtFrom history.now.ops ids.now i)) }
-{
-    for id in ids {
-        add_one(history, *id, found)?;
-    }
-    Ok(())
-}
-
-/// Adds an id with what its operation aims at.
-fn add_one(history: &History, id: OpId, found: &mut Vec<OpId>) -> Result<(), OutOfMemory>
-    ensures { OnOk result ((i : OpId) → Contains found.new.items i ↔ (Contains found.old.items i
-        ⊎ IsBrought history.now.ops id i)) }
-{
-    history.recall_valid();
-    found.push(id)?;
-    if let Some(op) = history.get(id) {
-        found.extend_from_slice(op.aim())?;
-    }
-    Ok(())
+    aim_at(alloc, history, marks.as_slice())
 }

@@ -9,7 +9,7 @@ ghost use Rattle.gf_keep.specs.Keeping.{AreKeeping, AreKept, IsShowing, hiding};
 ghost use Rattle.gf_keep.specs.KeepFaults.{RefusesKeep};
 ghost use Rattle.gf_keep.specs.KeepSteps.{AreIdsOn, AreOfObject, AreShowings};
 
-use crate::aiming::{aim_at, ids_on};
+use crate::aiming::{aim_to_keep, ids_on};
 use crate::visible::kept_groups;
 use crate::{Keep, KeepFault};
 use gf_base::OutOfMemory;
@@ -74,7 +74,7 @@ fn changes_of(
     let mut changes = Vec::new(alloc);
     changes.push(set_shown(object, false, Ids::new(Vec::new(alloc))))?;
     for group in groups {
-        let aim = aim_at(alloc, history, group, &others)?;
+        let aim = aim_to_keep(alloc, history, group, &others)?;
         changes.push(set_shown(object, true, aim))?;
     }
     Ok(changes)

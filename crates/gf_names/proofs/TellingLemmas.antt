@@ -27,6 +27,7 @@ use Rattle.gf_names.specs.RisingIds.{IsRisingOf}
 use Rattle.gf_names.specs.Telling.{IsTelling, AreTelling}
 use Rattle.gf_names.specs.LastConflict.{AreOfOneSite, IsAbove, IsLastConflict, TellsLast, TellsAt}
 use Rattle.gf_names.specs.LastConflict.{TellsFrom}
+use Rattle.gf_names.proofs.AddingLemmas.{added_more}
 
 pub rising_told : (given found : List OpId) → found ≡ fold (insert_key id_cmp) [] given
     → IsRisingOf given found
@@ -185,17 +186,7 @@ module _ (h : List Op) (ids others : List OpId) (n : ℕ) where
       → ((i : OpId) → Contains old i ↔ (Contains first i ⊎ TellsFrom h ids (take n others) i))
       → ((i : OpId) → Contains new i ↔ (Contains old i ⊎ TellsAt h ids (get_or others n d) i))
       → (i : OpId) → Contains new i ↔ (Contains first i ⊎ TellsFrom h ids (take (n + 1) others) i)
-  lasts_more first old new d within was adds i =
-      let f = from_more d within i in (
-        λ c. elim ((adds i).0 c) [
-          | inl k ↦ elim ((was i).0 k) [ inl a ↦ inl a | inr t ↦ inr (f.1 (inl t)) ]
-          | inr t ↦ inr (f.1 (inr t))
-        ],
-        λ w. (adds i).1 (elim w [
-          | inl a ↦ inl ((was i).1 (inl a))
-          | inr t ↦ elim (f.0 t) [ inl u ↦ inl ((was i).1 (inr u)) | inr u ↦ inr u ]
-        ]),
-      )
+  lasts_more first old new d within was adds i = added_more (from_more d within i) (was i) (adds i)
 
   pub lasts_all : (first new : List OpId) → length others ≤ n
       → ((i : OpId) → Contains new i ↔ (Contains first i ⊎ TellsFrom h ids (take n others) i))

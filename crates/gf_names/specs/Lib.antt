@@ -3,3 +3,4 @@ pub mod RisingIds
 pub mod LastConflict
 pub mod Lacking
 pub mod Objects
+pub mod Aiming

@@ -5,8 +5,8 @@ use Rattle.gf_keep.specs.KeepSteps.{AreIdsOn}
 use Rattle.gf_keep.proofs.ShowingLemmas.{item_in, shows_more}
 use Rattle.gf_keep.proofs.keeping_changes.changes_of.Goals as goal
 
-pub aim_at-requires : goal.aim_at-requires
-aim_at-requires c =
+pub aim_to_keep-requires : goal.aim_to_keep-requires
+aim_to_keep-requires c =
     let on = c.requires c.group-item.result (item_in c.args.groups.now c.loop-group.group-index
     c.group-item.result c.loop-group-test.true c.group-item.is) in
     subst (λ (ids : List OpId). AreIdsOn c.args.history.now.ops c.group-item.result.object ids)

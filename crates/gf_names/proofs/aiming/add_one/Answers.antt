@@ -1,5 +1,5 @@
-use Rattle.gf_keep.proofs.AimingLemmas.{brought_none, brought_some}
-use Rattle.gf_keep.proofs.aiming.add_one.Goals as goal
+use Rattle.gf_names.proofs.AimingLemmas.{brought_none, brought_some}
+use Rattle.gf_names.proofs.aiming.add_one.Goals as goal
 
 pub returns-in_ok-extend_from_slice : goal.returns-in_ok-extend_from_slice
 returns-in_ok-extend_from_slice c =

@@ -1,8 +1,8 @@
 use Rattle.std.proofs.Common.{take}
 use Rattle.std.specs.Prelude.{◌↔◌, ◌⊎◌, Contains}
 use Rattle.gf_ops.specs.declared.op.OpId.{OpId}
-use Rattle.gf_keep.specs.KeepSteps.{IsBroughtFrom}
-use Rattle.gf_keep.proofs.aiming.add_all.Given as goal
+use Rattle.gf_names.specs.Aiming.{IsBroughtFrom}
+use Rattle.gf_names.proofs.aiming.add_all.Given as goal
 
 abbrev pub invariant-loop-id : goal.invariant-loop-id
 invariant-loop-id l = (i : OpId)

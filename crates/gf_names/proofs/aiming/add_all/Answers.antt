@@ -1,5 +1,5 @@
-use Rattle.gf_keep.proofs.AimingLemmas.{brought_all, brought_more}
-use Rattle.gf_keep.proofs.aiming.add_all.Goals as goal
+use Rattle.gf_names.proofs.AimingLemmas.{brought_all, brought_more}
+use Rattle.gf_names.proofs.aiming.add_all.Goals as goal
 
 pub loop-id-preserved : goal.loop-id-preserved
 loop-id-preserved c =
