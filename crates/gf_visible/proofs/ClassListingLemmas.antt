@@ -1,5 +1,5 @@
 -- The sets that show of all classes, from those of the classes that were met first.
-use Rattle.std.proofs.Common.{◌≡◌, ℕ, ◌+◌, ◌≤◌, ◌<◌, Bool, true, List, [], ◌∷◌, filter, get_or, length}
+use Rattle.std.proofs.Common.{◌≡◌, ℕ, ◌+◌, ◌^◌, ◌≤◌, ◌<◌, Bool, true, List, [], ◌∷◌, filter, get_or, length}
 use Rattle.std.proofs.Common.{take, inl, inr, not, refl, subst, sym, ap, ◌∙◌, arith}
 use Rattle.std.specs.Prelude.{◌⊎◌, ◌↔◌, Contains, Option, Some, None}
 use Rattle.std.specs.Ordering.{nat_cmp}
@@ -14,7 +14,7 @@ use Rattle.gf_maximal.specs.Rows.{AreRows, conflict}
 use Rattle.gf_maximal.proofs.MaximalLemmas.{Contains-without, from_list, not_in}
 use Rattle.gf_ops.specs.OperationOrder.{IsSite}
 use Rattle.gf_visible.specs.Choices.{AreShowing, showing}
-use Rattle.gf_visible.specs.ClassListing.{AreHiders, IsLead}
+use Rattle.gf_visible.specs.ClassListing.{AreDeciding, AreHiders, IsLead}
 use Rattle.gf_visible.specs.ClassSays.{TimelineState, are_sides, covers, hides, is_deciding}
 use Rattle.gf_visible.specs.ClassSays.{is_other, said}
 use Rattle.gf_visible.specs.Seen.{seen, HasMoreParts, IsPartListing, IsPartOf, MayBeMet}
@@ -124,62 +124,61 @@ module _ (t : TimelineState) (known : AreRows t.rows) (used hs : List ℕ)
       → IsLead t used hs us gs
   lead_of_sides us e sides gs d = record {
     part = part_of_calm (covers t.says) c hs us
-        (subst IsRising (sym e)
-        (IsStrictlySortedBy-filter nat_cmp (is_other t.rows t.says hs) used all.rises))
+        (some_rise (is_other t.rows t.says hs) used us e all.rises)
         (λ a b i j. sides_apart t.rows known t.says hs used us sides a b i j) gs d;
-    within = λ a i. ((Contains-filter (is_other t.rows t.says hs) used a).0
-        (subst (λ z. Contains z a) e i)).0;
+    within = some_within (is_other t.rows t.says hs) used us e;
     calm = λ a i out. sides_calm t.rows known t.says hs used us sides e a i out;
   }
 
   -- ---- a search
 
-  module _ (ds : List ℕ) (is : ds ≡ filter (is_deciding t.rows t.says hs) used)
-      (h : hs ≡ filter (hides t.says) used) where
-    pub deciding_rise : IsRising ds
-    deciding_rise = subst IsRising (sym is)
-        (IsStrictlySortedBy-filter nat_cmp (is_deciding t.rows t.says hs) used all.rises)
+  pub are_deciding : (ds : List ℕ) → ds ≡ filter (is_deciding t.rows t.says hs) used
+      → length t.rows < 2 ^ 64 → AreDeciding t used hs ds
+  are_deciding ds is fits = record {
+    is = is;
+    rises = some_rise (is_deciding t.rows t.says hs) used ds is all.rises;
+    bounded = fitting (length t.rows) 18446744073709551616 fits ds
+        (λ a i. all.below a (some_within (is_deciding t.rows t.says hs) used ds is a i));
+  }
 
-    pub deciding_within : (a : ℕ) → Contains ds a → Contains used a
-    deciding_within a i = ((Contains-filter (is_deciding t.rows t.says hs) used a).0
-        (subst (λ z. Contains z a) is i)).0
+  module _ (ds : List ℕ) (decide : AreDeciding t used hs ds) (h : hs ≡ filter (hides t.says) used)
+    where
+      abbrev choices : List (List ℕ)
+      choices = showing (hides t.says) (covers t.says) c ds
 
-    abbrev choices : List (List ℕ)
-    choices = showing (hides t.says) (covers t.says) c ds
+      lead_of_showing : (gs : List (List ℕ))
+          → AreShowing (hides t.says) (covers t.says) (conflict t.rows) ds gs
+          → IsLead t used hs ds gs
+      lead_of_showing gs w = record {
+        part = part_of_showing (hides t.says) (covers t.says) c (rows_test t.rows known) hs ds
+            decide.rises (hiders_decide t.rows known t.says hs used ds decide.is h) gs w;
+        within = some_within (is_deciding t.rows t.says hs) used ds decide.is;
+        calm = λ a i out. rest_calm t.rows known t.says hs used ds decide.is a i out;
+      }
 
-    lead_of_showing : (gs : List (List ℕ))
-        → AreShowing (hides t.says) (covers t.says) (conflict t.rows) ds gs
-        → IsLead t used hs ds gs
-    lead_of_showing gs w = record {
-      part = part_of_showing (hides t.says) (covers t.says) c (rows_test t.rows known) hs ds
-          deciding_rise (hiders_decide t.rows known t.says hs used ds is h) gs w;
-      within = deciding_within;
-      calm = λ a i out. rest_calm t.rows known t.says hs used ds is a i out;
-    }
+      all_choices : AreShowing (hides t.says) (covers t.says) (conflict t.rows) ds
+          (showing (hides t.says) (covers t.says) (conflict t.rows) ds)
+      all_choices = showing_all (hides t.says) (covers t.says) c known.symmetric known.alone ds
+          decide.rises
 
-    all_choices : AreShowing (hides t.says) (covers t.says) (conflict t.rows) ds
-        (showing (hides t.says) (covers t.says) (conflict t.rows) ds)
-    all_choices = showing_all (hides t.says) (covers t.says) c known.symmetric known.alone ds
-        deciding_rise
+      module _ (m : ℕ) (finds : List (List ℕ)) (e : finds
+          ≡ take (m + 1) (showing (hides t.says) (covers t.says) (conflict t.rows) ds)) where
+        pub search_more : m < length finds
+            → HasMoreShowing (hides t.says) (covers t.says) (conflict t.rows) used m
+        search_more l =
+            let len = ap length e ∙ length-take (m + 1) choices in
+            let lead = lead_of_showing choices all_choices in
+            let rest = without ds used in
+            let rises = IsStrictlySortedBy-filter nat_cmp (λ a. not (is_in ds a)) used all.rises in
+            let may = rest_may ds choices lead rest refl rises in
+            more_shown ds choices lead rest refl m
+            (more_met (covers t.says) t.rows known hs ds rest (length t.rows) may ds rest choices m
+            (first_met (covers t.says) t.rows known hs ds rest (length t.rows) may choices lead.part)
+            (omega (arith, l, len)))
 
-    module _ (m : ℕ) (finds : List (List ℕ)) (e : finds
-        ≡ take (m + 1) (showing (hides t.says) (covers t.says) (conflict t.rows) ds)) where
-      pub search_more : m < length finds
-          → HasMoreShowing (hides t.says) (covers t.says) (conflict t.rows) used m
-      search_more l =
-          let len = ap length e ∙ length-take (m + 1) choices in
-          let lead = lead_of_showing choices all_choices in
-          let rest = without ds used in
-          let rises = IsStrictlySortedBy-filter nat_cmp (λ a. not (is_in ds a)) used all.rises in
-          let may = rest_may ds choices lead rest refl rises in
-          more_shown ds choices lead rest refl m
-          (more_met (covers t.says) t.rows known hs ds rest (length t.rows) may ds rest choices m
-          (first_met (covers t.says) t.rows known hs ds rest (length t.rows) may choices lead.part)
-          (omega (arith, l, len)))
-
-      pub search_lead : length finds ≤ m → IsLead t used hs ds finds
-      search_lead l =
-          let len = ap length e ∙ length-take (m + 1) choices in
-          let few : length choices ≤ m + 1 = omega (arith, l, len) in
-          subst (IsLead t used hs ds) (sym (e ∙ take_all (m + 1) choices few))
-          (lead_of_showing choices all_choices)
+        pub search_lead : length finds ≤ m → IsLead t used hs ds finds
+        search_lead l =
+            let len = ap length e ∙ length-take (m + 1) choices in
+            let few : length choices ≤ m + 1 = omega (arith, l, len) in
+            subst (IsLead t used hs ds) (sym (e ∙ take_all (m + 1) choices few))
+            (lead_of_showing choices all_choices)

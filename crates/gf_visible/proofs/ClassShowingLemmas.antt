@@ -1,8 +1,8 @@
 -- A set of classes shows where the set of their members does.
 use Rattle.std.proofs.Common.{◌≡◌, ℕ, zero, suc, ◌≤◌, Bool, true, false, not, max, List, [], ◌∷◌}
-use Rattle.std.proofs.Common.{map, fold, length, inl, inr, refl, subst, sym, ap, ◌∙◌, arith}
+use Rattle.std.proofs.Common.{map, fold, inl, inr, refl, subst, sym, ap, ◌∙◌, arith}
 use Rattle.std.specs.Prelude.{◌⊎◌, ◌&&◌, nat_le, nat_lt, Contains, Option, Some, None}
-use Rattle.std.specs.Prelude.{slice_get, slice_index_or, unwrap_or}
+use Rattle.std.specs.Prelude.{option_map, slice_get, slice_index_or, unwrap_or}
 use Rattle.std.specs.Option.{is_some}
 use Rattle.std.proofs.lemmas.Bool.{and_from, and_parts, leb-true, le-leb, ltb-true, lt-ltb}
 use Rattle.std.proofs.lemmas.Bool.{cases_lt}
@@ -26,7 +26,7 @@ use Rattle.gf_visible.specs.ClassSays.{covers, hides, either_clock, said, says_o
 use Rattle.gf_visible.specs.ClassSays.{with_op, with_said}
 use Rattle.gf_visible.specs.ShownAt.{covers_at, hides_at, later_at, shows_at, shows_or_hides_at}
 use Rattle.gf_visible.specs.Choices.{AreShowing, IsCovered, IsShowing}
-use Rattle.gf_visible.specs.ShownSets.{HasMoreSets, HasMoreShowing, IsSetListing}
+use Rattle.gf_visible.specs.ShownSets.{IsSetListing, IsShowingListing}
 use Rattle.gf_visible.proofs.SetterLemmas.{setter_shows}
 use Rattle.gf_visible.proofs.ShownSetLemmas.{are_shown}
 use Rattle.gf_visible.proofs.TimelineLemmas.{entry_either_clock, entry_none}
@@ -400,21 +400,16 @@ module _ (h : List Op) (valid : IsValid h) (o : ObjectId) (made : IsMade h o) (s
   abbrev t : List Says
   t = timeline h valid (positions_on h o) s classes
 
-  pub shown_told : (m : ℕ) (gs : List (List ℕ))
-      → AreShowing (hides (map (says_of h) s.members)) (covers (map (says_of h) s.members))
-      (conflict s.rows) (used s) gs
-      → length gs ≤ m → IsSetListing h (positions_on h o) m (Some (map (spread s) gs))
-  shown_told m gs w few = (
+  pub listing_spread : (m : ℕ) (found : Option (List (List ℕ)))
+      → IsShowingListing (hides (map (says_of h) s.members)) (covers (map (says_of h) s.members))
+      (conflict s.rows) (used s) m found
+      → IsSetListing h (positions_on h o) m (option_map (map (spread s)) found)
+  listing_spread m (Some gs) w = (
     are_shown h valid o made (map (spread s) gs)
-        (shown_spread h valid (positions_on h o) s classes gs w),
-    let e = length-map gs (spread s) in omega (arith, e, few),
+        (shown_spread h valid (positions_on h o) s classes gs w.0),
+    let few = w.1 in let e = length-map gs (spread s) in omega (arith, e, few),
   )
-
-  pub more_told : (m : ℕ)
-      → HasMoreShowing (hides (map (says_of h) s.members)) (covers (map (says_of h) s.members))
-      (conflict s.rows) (used s) m
-      → HasMoreSets h (positions_on h o) m
-  more_told m w = record {
+  listing_spread m None w = record {
     sets = map (spread s) w.sets;
     all = are_shown h valid o made (map (spread s) w.sets)
         (shown_spread h valid (positions_on h o) s classes w.sets w.all);

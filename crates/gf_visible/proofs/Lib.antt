@@ -10,3 +10,4 @@ pub mod VisibleLemmas
 pub mod ShownSetLemmas
 pub mod ClassShowingLemmas
 pub mod ClassListingLemmas
+mod RankingLemmas

@@ -1,15 +1,16 @@
 //! The largest compatible sets of an object's positions that show, listed unless they are too many.
 
 ghost use Rattle.std.specs.Prelude.{◌≡◌, ◌≤◌, ◌<◌, ℕ, length, Contains, IfOk, filter, option_map};
-ghost use Rattle.std.specs.Prelude.{◌-◌, ◌^◌, true};
+ghost use Rattle.std.specs.Prelude.{◌-◌, ◌^◌, map, true};
 ghost use Rattle.gf_classes.specs.ConflictClasses.{AreClassesOf};
 ghost use Rattle.gf_table.specs.Positions.{positions_on};
 ghost use Rattle.gf_groups.specs.Versions.{IsMade};
+ghost use Rattle.gf_maximal.specs.Classes.{spread};
 ghost use Rattle.gf_maximal.specs.Rows.{conflict};
 ghost use Rattle.gf_ops.specs.OperationOrder.{IsSite};
 ghost use Rattle.gf_versions.specs.declared.ranking.TheConstants.{MOST_VERSIONS};
 ghost use Rattle.gf_visible.specs.ClassSays.{are_sides, covers, hides, is_other, said};
-ghost use Rattle.gf_visible.specs.ClassListing.{AreHiders, IsLead};
+ghost use Rattle.gf_visible.specs.ClassListing.{AreDeciding, AreHiders, IsLead};
 ghost use Rattle.gf_visible.specs.ShownSets.{IsSetListing, IsShowingListing};
 
 use crate::growing::{Partial, grown, keep_seen};
@@ -75,6 +76,23 @@ fn by_sides(
     )
 }
 
+/// Those of the classes that hide, show, or conflict with one that hides.
+fn deciding_of(
+    alloc: Global,
+    timeline: &Timeline<'_>,
+    used: &Numbers,
+    hiders: &[usize],
+    hiding: &Numbers,
+) -> Result<Vec<usize>, OutOfMemory>
+    requires hiders { AreHiders timeline.now used.now hiders.now }
+    requires hiding { hiding.now ≡ hiders.now }
+    ensures { IfOk result (λ found. AreDeciding timeline.now used.now hiders.now found.items) }
+{
+    timeline.recall_rows();
+    let classes = used.to_vec(alloc)?;
+    timeline.deciding(alloc, &classes, hiding)
+}
+
 /// The sets that show of any classes. A search over those that decide finds the first ones.
 fn by_search(
     alloc: Global,
@@ -93,8 +111,7 @@ fn by_search(
         (option_map (λ v. v.items) found)) }
 {
     timeline.recall_rows();
-    let classes = used.to_vec(alloc)?;
-    let deciding = timeline.deciding(alloc, &classes, hiding)?;
+    let deciding = deciding_of(alloc, timeline, used, hiders, hiding)?;
     let found = showing_within(alloc, timeline, &deciding, most + 1)?;
     if found.len() > most {
         return Ok(None);
@@ -157,8 +174,21 @@ pub(crate) fn shown_sets(
     let says = all_says(alloc, history.ops(), classes.members())?;
     let used = classes.used(alloc)?;
     let timeline = Timeline::new(classes.rows(), &says);
-    let Some(found) = shown_classes(alloc, &timeline, &used, most)? else {
-        return Ok(None);
-    };
-    Ok(Some(classes.spread_all(alloc, &found)?))
+    let found = shown_classes(alloc, &timeline, &used, most)?;
+    spread_found(alloc, classes, found)
+}
+
+/// The found sets of classes as sets of their members.
+fn spread_found(
+    alloc: Global,
+    classes: &Classes,
+    found: Option<Vec<Numbers>>,
+) -> Result<Option<Vec<Numbers>>, OutOfMemory>
+    ensures { IfOk result (λ sets. option_map (λ v. v.items) sets
+        ≡ option_map (map (spread classes.now)) (option_map (λ v. v.items) found)) }
+{
+    match found {
+        Some(found) => Ok(Some(classes.spread_all(alloc, &found)?)),
+        None => Ok(None),
+    }
 }
