@@ -1,5 +1,5 @@
 -- What growth asks before it cuts a set, and what it keeps. No public clause cites this module.
-use Rattle.std.specs.Prelude.{◌≡◌, ℕ, Bool, true, false, cond, List, Contains, ◌<◌, length}
+use Rattle.std.specs.Prelude.{◌≡◌, ℕ, Bool, true, false, cond, List, Contains, ◌<◌, length, take}
 use Rattle.std.specs.List.{list_all, fold, range_with_len}
 use Rattle.std.specs.Option.{MatchOption}
 use Rattle.std.specs.Prelude.{Option}
@@ -44,3 +44,9 @@ pub record IsGrown (rows : List (List ℕ)) (us : List ℕ) (gs : List (List ℕ
   pub rising : IsRising us
   pub below : (a : ℕ) → Contains us a → a < length rows
   pub sets : AreLargestSets (conflict rows) us gs
+
+-- met are the numbers us before place i, and gs all largest sets of those met
+pub record IsGrownTo (rows : List (List ℕ)) (us : List ℕ) (i : ℕ) (met : List ℕ)
+    (gs : List (List ℕ)) : Type 0 where
+  pub front : met ≡ take i us
+  pub grown : IsGrown rows met gs

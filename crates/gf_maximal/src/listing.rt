@@ -3,7 +3,7 @@
 ghost use Rattle.std.specs.Prelude.{◌≡◌, ◌+◌, ◌<◌, ℕ, [], ◌∷◌, List, Contains, cond, length};
 ghost use Rattle.std.specs.Prelude.{nat_le};
 ghost use Rattle.std.specs.Prelude.{IfOk, OnOk};
-ghost use Rattle.gf_maximal.specs.Cutting.{IsGrown};
+ghost use Rattle.gf_maximal.specs.Cutting.{IsGrown, IsGrownTo};
 ghost use Rattle.gf_maximal.specs.Growing.{joined};
 ghost use Rattle.gf_maximal.specs.LargestSets.{IsRising, AreLargestSets};
 ghost use Rattle.gf_maximal.specs.Rows.{conflict, AreRows};
@@ -42,6 +42,26 @@ fn grow_by(
     Ok(())
 }
 
+/// Lets the number at a place meet all largest sets of those before it.
+fn grow_at(
+    alloc: Global,
+    rows: &[Numbers],
+    numbers: &[usize],
+    place: usize,
+    met: &mut Numbers,
+    sets: &mut Vec<Numbers>,
+) -> Result<(), OutOfMemory>
+    requires place { place < length numbers.now }
+    requires rising { IsRising numbers.now }
+    requires numbers { (a : ℕ) → Contains numbers.now a → a < length rows.now }
+    requires known { AreRows rows.now }
+    requires grown { IsGrownTo rows.now numbers.now place met.old sets.old.items }
+    ensures { OnOk result (IsGrownTo rows.now numbers.now (place + 1) met.new sets.new.items) }
+{
+    grow_by(alloc, rows, numbers[place], met, sets)?;
+    Ok(())
+}
+
 /// All largest sets of the numbers.
 pub(crate) fn all_sets(
     alloc: Global,
@@ -56,8 +76,8 @@ pub(crate) fn all_sets(
 {
     let mut met = Numbers::new(alloc);
     let mut sets = first_sets(alloc)?;
-    for number in numbers {
-        grow_by(alloc, rows, *number, &mut met, &mut sets)?;
+    for place in 0..numbers.len() {
+        grow_at(alloc, rows, numbers, place, &mut met, &mut sets)?;
     }
     Ok(sets)
 }
@@ -85,11 +105,11 @@ pub(crate) fn count_sets(
 {
     let mut met = Numbers::new(alloc);
     let mut sets = first_sets(alloc)?;
-    for number in numbers {
+    for place in 0..numbers.len() {
         if most < sets.len() {
             return Ok(most + 1);
         }
-        grow_by(alloc, rows, *number, &mut met, &mut sets)?;
+        grow_at(alloc, rows, numbers, place, &mut met, &mut sets)?;
     }
     Ok(at_most(sets.len(), most))
 }

@@ -1,9 +1,5 @@
-use Rattle.std.proofs.Common.{◌≡◌, take}
-use Rattle.gf_maximal.specs.Cutting.{IsGrown}
+use Rattle.gf_maximal.specs.Cutting.{IsGrownTo}
 use Rattle.gf_maximal.proofs.listing.count_sets.Given as goal
 
-abbrev pub invariant-loop-number : goal.invariant-loop-number
-invariant-loop-number l = record {
-  met : l.met ≡ take l.number-index l.numbers;
-  grown : IsGrown l.rows l.met l.sets.items;
-}
+abbrev pub invariant-loop-place : goal.invariant-loop-place
+invariant-loop-place l = IsGrownTo l.rows l.numbers l.place l.met l.sets.items
