@@ -5,3 +5,5 @@ pub mod SameLemmas
 pub mod RefusalLemmas
 pub mod BlockLemmas
 pub mod GrowthLemmas
+pub mod AddedLemmas
+pub mod JoiningLemmas

@@ -12,5 +12,4 @@ pub mod ExchangeLemmas
 pub mod ExactLemmas
 pub mod ApartLemmas
 pub mod MovedLemmas
-pub mod AddedLemmas
 pub mod AlikeLemmas

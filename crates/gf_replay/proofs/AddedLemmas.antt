@@ -1,11 +1,12 @@
 -- What one site adds behind a history: operations of its own, each accepted in its turn.
 use Rattle.std.specs.Prelude.{Contains}
-use Rattle.std.proofs.Common.{◌≡◌, ◌≢◌, ℕ, ◌+◌, ◌<◌, ◌≤◌, List, [], ◌∷◌, ◌++◌, sym, ap}
+use Rattle.std.proofs.Common.{◌≡◌, ◌≢◌, ℕ, ◌+◌, ◌<◌, ◌≤◌, List, [], ◌∷◌, ◌++◌, refl, sym, ap}
 use Rattle.std.proofs.Common.{subst}
 use Rattle.std.proofs.Common.{◌∙◌, inl, inr, append_assoc, arith}
 use Rattle.std.proofs.lemmas.List.{append-nil}
 use Rattle.std.proofs.lemmas.List.Elements.{Contains-push_cases}
 use Rattle.gf_ops.specs.declared.op.Op.{Op}
+use Rattle.gf_ops.specs.declared.change.Change.{Change}
 use Rattle.gf_ops.specs.OperationOrder.{count_of}
 use Rattle.gf_ops.specs.Accepted.{AreAccepted, IsAccepted, next as accepted_next}
 use Rattle.gf_ops.specs.Limits.{IsInRange}
@@ -13,6 +14,8 @@ use Rattle.gf_ops.specs.ValidHistory.{IsValid}
 use Rattle.gf_base.proofs.ListLemmas.{not_Contains-nil}
 use Rattle.gf_causal.proofs.CourseLemmas.{count_push_same, count_push_other}
 use Rattle.gf_site.proofs.ValidLemmas.{valid_push}
+use Rattle.gf_site.specs.MadeEach.{MakesEach, none as each_none, next as each_next}
+use Rattle.gf_site.specs.SiteState.{authored}
 
 -- site s adds these operations behind h. Each is accepted behind h and those before it
 pub data AreAdded (s : ℕ) (h : List Op) : List Op → Type 0 where
@@ -21,7 +24,7 @@ pub data AreAdded (s : ℕ) (h : List Op) : List Op → Type 0 where
       → IsAccepted (h ++ new) a → AreAdded s h (new ++ a ∷ [])
 
 -- a site that makes an operation more has one more in its history
-pub put_behind : (h new : List Op) (a : Op) (P : List Op → Type 0) → P ((h ++ new) ++ a ∷ [])
+put_behind : (h new : List Op) (a : Op) (P : List Op → Type 0) → P ((h ++ new) ++ a ∷ [])
     → P (h ++ (new ++ a ∷ []))
 put_behind h new a P p = subst P (append_assoc h new (a ∷ [])) p
 
@@ -72,3 +75,15 @@ module _ (s : ℕ) (h : List Op) where
       put_behind h made a IsValid
       (valid_push (h ++ made) (added_accepted run made m) (added_valid run valid made m) a range
       accepted)
+
+  -- ---- what it makes of changes, behind what it added so far
+
+  pub each_added : (made : List Op) → AreAdded s h made → (l : List Op) → l ≡ h ++ made
+      → (changes : List Change) (new : List Op) → MakesEach s l changes new
+      → AreAdded s h (made ++ new)
+  each_added made m l e changes new each_none = subst (AreAdded s h) (sym (append-nil made)) m
+  each_added made m l e changes new (each_next {cs = rest} {new = more} c range ok makes) =
+      let a = authored s l c in
+      subst (AreAdded s h) (append_assoc made (a ∷ []) more)
+      (each_added (made ++ a ∷ []) (next a m refl range (subst (λ k. IsAccepted k a) e ok))
+      (l ++ a ∷ []) (ap (λ k. k ++ a ∷ []) e ∙ append_assoc h made (a ∷ [])) rest more makes)
