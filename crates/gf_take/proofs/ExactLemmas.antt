@@ -58,6 +58,25 @@ opposite_size a c t =
     let parts = and_parts (not (int_eq a.x c.x)) (not (int_eq a.y c.y)) t in
     record { wide = apart_size a.x c.x parts.0; high = apart_size a.y c.y parts.1 }
 
+-- the area of a ring that is a box
+abbrev box_area : Ring → Area
+box_area ring = record {
+  low = plus origin (least_corner (point_at ring.points 0) (point_at ring.points 2));
+  width = unsigned_abs ((point_at ring.points 2).x -ℤ (point_at ring.points 0).x);
+  height = unsigned_abs ((point_at ring.points 2).y -ℤ (point_at ring.points 0).y);
+}
+
+box_size : (ring : Ring) → is_box ring ≡ true
+    → HasSize (point_at ring.points 0) (point_at ring.points 2)
+box_size ring t =
+    let a = point_at ring.points 0 in
+    let b = point_at ring.points 1 in
+    let c = point_at ring.points 2 in
+    let d = point_at ring.points 3 in
+    let corners = and_parts ring.boxed (are_corners a b c d) t in
+    let parts = and_parts (are_opposite a c) _ corners.1 in
+    opposite_size a c parts.0
+
 rect_form : (a : Area) → 1 ≤ a.width → 1 ≤ a.height
     → form_of (rect_outline a) ≡ Rect a.width a.height
 rect_form a w h =
@@ -107,19 +126,7 @@ form_back : (o : Outline) → IsLawful o → form_of (any_outline (shape_become 
 form_back (Disc disc) lawful = refl
 form_back (Oval oval) lawful = refl
 form_back (Chain ring) lawful = elim (cases_Bool (is_box ring)) [
-  | inl t ↦
-      let a = point_at ring.points 0 in
-      let b = point_at ring.points 1 in
-      let c = point_at ring.points 2 in
-      let d = point_at ring.points 3 in
-      let corners = and_parts ring.boxed (are_corners a b c d) t in
-      let parts = and_parts (are_opposite a c) _ corners.1 in
-      let size = opposite_size a c parts.0 in
-      rw t (rect_form (record {
-        low = plus origin (least_corner a c);
-        width = unsigned_abs (c.x -ℤ a.x);
-        height = unsigned_abs (c.y -ℤ a.y);
-      }) size.wide size.high)
+  | inl t ↦ let size = box_size ring t in rw t (rect_form (box_area ring) size.wide size.high)
   | inr f ↦ ap form_of (polygon_back ring lawful f) ∙ open_form f
 ]
   where
@@ -131,18 +138,9 @@ place_back (Disc disc) lawful = plus-origin disc.centre
 place_back (Oval oval) lawful = plus-origin oval.centre
 place_back (Chain ring) lawful = elim (cases_Bool (is_box ring)) [
   | inl t ↦
-      let a = point_at ring.points 0 in
-      let b = point_at ring.points 1 in
-      let c = point_at ring.points 2 in
-      let d = point_at ring.points 3 in
-      let corners = and_parts ring.boxed (are_corners a b c d) t in
-      let parts = and_parts (are_opposite a c) _ corners.1 in
-      let size = opposite_size a c parts.0 in
-      rw t (rect_place (record {
-        low = plus origin (least_corner a c);
-        width = unsigned_abs (c.x -ℤ a.x);
-        height = unsigned_abs (c.y -ℤ a.y);
-      }) size.wide size.high ∙ plus-origin (least_corner a c))
+      let size = box_size ring t in
+      let corner = least_corner (point_at ring.points 0) (point_at ring.points 2) in
+      rw t (rect_place (box_area ring) size.wide size.high ∙ plus-origin corner)
   | inr f ↦ ap place_of (polygon_back ring lawful f) ∙ open_place f
 ]
   where

@@ -12,13 +12,9 @@ pub returns-in_default-clause-none : goal.returns-in_default-clause-none
 returns-in_default-clause-none c = λ e.
     let table = c.args.drawing.now.table in
     let item = c.args.item.now in
-    let unlike = rw c.in_default.is at c.in_ok-position.ensures.none in
-    none_like table (any_outline item.shape) item.colour
-    (map (λ f. f.now) c.args.left.now.items)
-    (subst (λ o. All (λ f. ¬ (IsTraced table o item.colour f))
-    (map (λ f. f.now) c.args.left.now.items)) c.in_ok-outline.ensures.outline
-    (subst (λ l. All (λ f. ¬ (IsTraced table c.in_ok-outline.outline item.colour f))
-    (map (λ f. f.now) l)) c.deref.ensures.value unlike))
+    none_like table (any_outline item.shape) item.colour (map (λ f. f.now) c.args.left.now.items)
+    (rw (c.in_default.is, c.deref.ensures.value, c.in_ok-outline.ensures.outline)
+    at c.in_ok-position.ensures.none)
 
 pub returns-then-not-can_pass-clause-none : goal.returns-then-not-can_pass-clause-none
 returns-then-not-can_pass-clause-none c = λ e.
@@ -27,9 +23,7 @@ returns-then-not-can_pass-clause-none c = λ e.
     let refs = c.args.left.now.items in
     let k = c.in-Some.position in
     let r = c.index.result.now in
-    let like = subst (λ l. IsLikeAt table c.in_ok-outline.outline item.colour
-    (map (λ f. f.now) l) k) c.deref.ensures.value
-    (rw c.in-Some.is at c.in_ok-position.ensures.some) in
+    let like = rw (c.in-Some.is, c.deref.ensures.value) at c.in_ok-position.ensures.some in
     let within : k < length refs = search (rules, arith) in
     let is : r ≡ get_or refs k r = search rules in
     takes_none (λ f. f.now) table item c.in_ok-outline.outline c.in_ok-outline.ensures.outline refs
@@ -47,9 +41,7 @@ returns-clause-some c = λ e.
     let refs = c.args.left.now.items in
     let k = c.in-Some.position in
     let r = c.index.result.now in
-    let like = subst (λ l. IsLikeAt table c.in_ok-outline.outline item.colour
-    (map (λ f. f.now) l) k) c.deref.ensures.value
-    (rw c.in-Some.is at c.in_ok-position.ensures.some) in
+    let like = rw (c.in-Some.is, c.deref.ensures.value) at c.in_ok-position.ensures.some in
     let within : k < length refs = search (rules, arith) in
     let is : r ≡ get_or refs k r = search rules in
     takes_like (λ f. f.now) table item c.in_ok-outline.outline c.in_ok-outline.ensures.outline refs
