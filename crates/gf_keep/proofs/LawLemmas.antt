@@ -38,7 +38,8 @@ use Rattle.gf_site.specs.MadeEach.{MakesEach, next as made_next}
 use Rattle.gf_keep.specs.MadeOf.{Becomes, GoesOn, IsHide, IsKeptOn, IsShow}
 use Rattle.gf_keep.proofs.KeptLemmas.{becomes_shown, becomes_version, other_shows, setter_shows}
 use Rattle.gf_keep.proofs.KeptLemmas.{showing_in, shown_exactly}
-use Rattle.gf_keep.proofs.MadeLemmas.{first_known, made_calm, made_known, made_valid, shows_made}
+use Rattle.gf_site.proofs.EachLemmas.{each_valid}
+use Rattle.gf_keep.proofs.MadeLemmas.{first_known, made_calm, made_known, shows_made}
 use Rattle.gf_keep.proofs.PairedLemmas.{Paired, paired_holds, paired_left, paired_right, some_left}
 use Rattle.gf_keep.proofs.PairedLemmas.{some_right}
 
@@ -91,7 +92,7 @@ module _ (s : ℕ) (h : List Op) (k : Keep) (run : AreAccepted h) (valid : IsVal
   makes = made_next (hiding k.object) range accepted m
 
   whole : IsValid (h ++ new)
-  whole = made_valid s h (hiding k.object ∷ cs) new run valid makes
+  whole = each_valid s h (hiding k.object ∷ cs) new run valid makes
 
   showing : AllZip (λ (g : Group) (x : Op). IsShowing h g x.change) groups shows
   showing = shows_made s h (h ++ hide ∷ []) groups cs shows each m

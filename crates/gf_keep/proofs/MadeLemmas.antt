@@ -1,10 +1,9 @@
 -- Operations that one site makes of changes: they know what was there, and each what was made
 -- before it.
-use Rattle.std.proofs.Common.{◌≡◌, ℕ, List, [], ◌∷◌, ◌++◌, sym, subst, ◌∙◌, append_assoc, arith}
+use Rattle.std.proofs.Common.{◌≡◌, ℕ, List, [], ◌∷◌, ◌++◌, sym, subst, ◌∙◌, arith}
 use Rattle.std.proofs.Common.{inl, inr}
 use Rattle.std.specs.Prelude.{◌⊎◌, Contains}
 use Rattle.std.specs.List.{AllZip}
-use Rattle.std.proofs.lemmas.List.{append-nil}
 use Rattle.std.proofs.lemmas.List.Elements.{Contains-append_cases, Contains-append_left}
 use Rattle.std.proofs.lemmas.List.Elements.{Contains-push}
 use Rattle.gf_base.proofs.ListLemmas.{Contains-cons_cases, not_Contains-nil}
@@ -31,14 +30,6 @@ knows_all s h c valid b i =
     let n = number_counted h valid b i in
     let e = entry-clock_of h b.id.site (site_in_range b (valid.in_range b i)) in
     omega arith
-
-pub made_valid : (s : ℕ) (h : List Op) (cs : List Change) (new : List Op) → AreAccepted h
-    → IsValid h → MakesEach s h cs new → IsValid (h ++ new)
-made_valid s h cs new run valid made_none = subst IsValid (sym (append-nil h)) valid
-made_valid s h cs new run valid (made_next {cs = rest} {new = more} c range t m) =
-    subst IsValid (append_assoc h (authored s h c ∷ []) more)
-    (made_valid s (h ++ authored s h c ∷ []) rest more (next run t)
-    (valid_push h run valid (authored s h c) range t) m)
 
 pub made_known : (s : ℕ) (h : List Op) (cs : List Change) (new : List Op) → AreAccepted h
     → IsValid h → MakesEach s h cs new → (b x : Op) → Contains h b → Contains new x → Precedes b x
