@@ -2,8 +2,8 @@
 
 use crate::ranks::ShownVersions;
 use gf_base::OutOfMemory;
-use gf_names::{rising, telling};
-use gf_ops::{History, Ids, OpId};
+use gf_names::{aim_at, telling};
+use gf_ops::{Ids, OpId};
 use gf_table::IndexedHistory;
 use gf_versions::VersionKey;
 use std::alloc::Global;
@@ -95,16 +95,4 @@ pub(crate) fn has_all(list: &[OpId], ids: &[OpId]) -> bool {
         }
     }
     true
-}
-
-/// The aim at these operations: they, and what they are aimed at, rising.
-pub(crate) fn aim_at(alloc: Global, history: &History, ids: &[OpId]) -> Result<Ids, OutOfMemory> {
-    let mut aim = Vec::new(alloc);
-    for id in ids {
-        aim.push(*id)?;
-        if let Some(op) = history.get(*id) {
-            aim.extend_from_slice(op.aim())?;
-        }
-    }
-    rising(alloc, &aim)
 }

@@ -1,11 +1,12 @@
 //! The changes of what stands in the drawing: places, sizes, points, colours, and what is hidden.
 
 use crate::Target;
-use crate::aiming::{MOST_AIMED, aim_at, aim_to_keep, fewest, has_all, told_from};
+use crate::aiming::{MOST_AIMED, aim_to_keep, fewest, has_all, told_from};
 use crate::comparing::{moved, points_from, size_of};
 use crate::matching::{Candidate, Matching};
 use crate::ranks::{ShownVersions, ranks_by_object};
 use gf_base::OutOfMemory;
+use gf_names::aim_at;
 use gf_ops::{Attr, Change, Form, Ids, ObjectId, OpId, Start, Value};
 use gf_shape::{AnyShape, Point};
 use gf_table::IndexedHistory;

@@ -22,10 +22,10 @@ pub(crate) fn looks(
     ensures { IfOk result (λ same. IsTrue same
         ↔ IsTraced drawing.now.table outline.now colour figure.now) }
 {
-    if !same_colour(colour, colour_of(drawing, figure)) {
+    if !become_alike(alloc, outline, &figure.shape)? {
         return Ok(false);
     }
-    become_alike(alloc, outline, &figure.shape)
+    Ok(same_colour(colour, colour_of(drawing, figure)))
 }
 
 /// Whether an outline becomes the object that another outline becomes.
