@@ -7,7 +7,7 @@ use Rattle.gf_studio.specs.declared.painting.Format.TheVariants as input
 use Rattle.gf_studio.specs.FigRun.{Exports, IsFigOf, IsNamedOf, Writes, WritesNamed}
 use Rattle.gf_studio.specs.InspectRun.{AnswersQuery, WritesAnswer}
 use Rattle.gf_studio.specs.PaintRun.{WritesPicture}
-use Rattle.gf_studio.specs.PictureRun.{IsShownBy, IsWindowOf, Paints, PaintsBands}
+use Rattle.gf_studio.specs.PictureRun.{IsShownBy, IsWindowOf, PaintsBands, PaintsInput}
 use Rattle.gf_run.specs.RunAnswers.{WritesPrefix}
 use Rattle.gf_import.specs.ImportRun.{Imports, WritesImport}
 use Rattle.gf_edit.specs.declared.made.Made.{Made}
@@ -47,7 +47,7 @@ WritesExtent format extent bytes old new =
 abbrev pub WritesExtentPrefix : Format → Extent → List ℕ → Option (List ℕ) → Option (List ℕ)
     → Type 0
 WritesExtentPrefix format extent bytes old new =
-    WritesPrefix (Paints format extent bytes) old new ⊎ PaintsBands format extent bytes old new
+    WritesPrefix (PaintsInput format extent bytes) old new ⊎ PaintsBands format extent bytes old new
 
 -- known bytes grow from old to new by what the run asks for. This is the FIG text, the picture, the
 -- status or the answer to a query of what the bytes denote. Or it is the picture of a FIG text's

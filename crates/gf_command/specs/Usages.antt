@@ -2,23 +2,24 @@
 use Rattle.std.specs.Prelude.{List, []}
 use Rattle.clap.specs.Walk.{Rule}
 use Rattle.clap.specs.Simple.{App, Shape}
-use Rattle.gf_command.specs.CommandLine.{canvas, check, command, drawing, editor, fig, query}
-use Rattle.gf_command.specs.CommandLine.{requests, site, sites}
+use Rattle.gf_command.specs.CommandLine.{check_options, command, fig_options, picture_options}
+use Rattle.gf_command.specs.CommandLine.{query_options, service_options, session_options}
+use Rattle.gf_command.specs.CommandLine.{site_options, status_options, take_options}
 use Rattle.gf_command.specs.declared.describing.Takes.{Takes}
 use Rattle.gf_command.specs.declared.describing.Takes.TheVariants as takes
 use Rattle.gf_command.specs.declared.describing.Usage.{Usage}
 
 -- the options of a command that takes these
 abbrev pub options_of : Takes → List Rule
-options_of takes.Fig = fig
-options_of takes.Canvas = canvas
-options_of takes.Query = query
-options_of takes.Site = site
-options_of takes.Drawing = drawing
-options_of takes.Check = check
-options_of takes.Editor = editor
-options_of takes.Sites = sites
-options_of takes.Requests = requests
+options_of takes.Fig = fig_options
+options_of takes.Canvas = picture_options
+options_of takes.Query = query_options
+options_of takes.Site = site_options
+options_of takes.Drawing = take_options
+options_of takes.Check = status_options
+options_of takes.Editor = check_options
+options_of takes.Sites = session_options
+options_of takes.Requests = service_options
 
 -- the command of a row
 abbrev pub usage_shape : Usage → Shape

@@ -168,7 +168,7 @@ fn options<'a>(alloc: Global, takes: Takes) -> Result<Vec<Arg<'a>>, AllocError>
 
 /// The options of a FIG text.
 fn fig<'a>(alloc: Global) -> Result<Vec<Arg<'a>>, AllocError>
-    ensures { IfOk result (λ args. map rule_of args.items ≡ line.fig) }
+    ensures { IfOk result (λ args. map rule_of args.items ≡ line.fig_options) }
 {
     Ok(vec![in alloc;
         flag(
@@ -195,7 +195,7 @@ fn reading<'a>(alloc: Global) -> Arg<'a>
 
 /// The options of a picture.
 fn canvas<'a>(alloc: Global) -> Result<Vec<Arg<'a>>, AllocError>
-    ensures { IfOk result (λ args. map rule_of args.items ≡ line.canvas) }
+    ensures { IfOk result (λ args. map rule_of args.items ≡ line.picture_options) }
 {
     Ok(vec![in alloc;
         place(
@@ -246,7 +246,7 @@ fn canvas<'a>(alloc: Global) -> Result<Vec<Arg<'a>>, AllocError>
 
 /// The options of a query.
 fn query<'a>(alloc: Global) -> Result<Vec<Arg<'a>>, AllocError>
-    ensures { IfOk result (λ args. map rule_of args.items ≡ line.query) }
+    ensures { IfOk result (λ args. map rule_of args.items ≡ line.query_options) }
 {
     Ok(vec![in alloc;
         text(
@@ -270,14 +270,14 @@ fn query<'a>(alloc: Global) -> Result<Vec<Arg<'a>>, AllocError>
 
 /// The option of an edit and of an import.
 fn site<'a>(alloc: Global) -> Result<Vec<Arg<'a>>, AllocError>
-    ensures { IfOk result (λ args. map rule_of args.items ≡ line.site) }
+    ensures { IfOk result (λ args. map rule_of args.items ≡ line.site_options) }
 {
     Ok(vec![in alloc; author(alloc)]?)
 }
 
 /// The options of a take.
 fn drawing<'a>(alloc: Global) -> Result<Vec<Arg<'a>>, AllocError>
-    ensures { IfOk result (λ args. map rule_of args.items ≡ line.drawing) }
+    ensures { IfOk result (λ args. map rule_of args.items ≡ line.take_options) }
 {
     Ok(vec![in alloc;
         author(alloc),
@@ -307,7 +307,7 @@ fn author<'a>(alloc: Global) -> Arg<'a>
 
 /// The options of a status.
 fn check<'a>(alloc: Global) -> Result<Vec<Arg<'a>>, AllocError>
-    ensures { IfOk result (λ args. map rule_of args.items ≡ line.check) }
+    ensures { IfOk result (λ args. map rule_of args.items ≡ line.status_options) }
 {
     Ok(vec![in alloc;
         flag(
@@ -331,7 +331,7 @@ fn json<'a>(alloc: Global) -> Arg<'a>
 
 /// The option of a check.
 fn editor<'a>(alloc: Global) -> Result<Vec<Arg<'a>>, AllocError>
-    ensures { IfOk result (λ args. map rule_of args.items ≡ line.editor) }
+    ensures { IfOk result (λ args. map rule_of args.items ≡ line.check_options) }
 {
     let site = optional(
         alloc,
@@ -344,7 +344,7 @@ fn editor<'a>(alloc: Global) -> Result<Vec<Arg<'a>>, AllocError>
 
 /// The option of a session.
 fn sites<'a>(alloc: Global) -> Result<Vec<Arg<'a>>, AllocError>
-    ensures { IfOk result (λ args. map rule_of args.items ≡ line.sites) }
+    ensures { IfOk result (λ args. map rule_of args.items ≡ line.session_options) }
 {
     let sites = number(
         alloc,
@@ -358,14 +358,14 @@ fn sites<'a>(alloc: Global) -> Result<Vec<Arg<'a>>, AllocError>
 
 /// The option of a service.
 fn requests<'a>(alloc: Global) -> Result<Vec<Arg<'a>>, AllocError>
-    ensures { IfOk result (λ args. map rule_of args.items ≡ line.requests) }
+    ensures { IfOk result (λ args. map rule_of args.items ≡ line.service_options) }
 {
     Ok(vec![in alloc; reading(alloc)]?)
 }
 
 /// An option for a coordinate.
 fn place<'a>(alloc: Global, name: &'a str, help: &'a str) -> Arg<'a>
-    ensures { rule_of result ≡ line.place name.now }
+    ensures { rule_of result ≡ line.place_option name.now }
 {
     optional(
         alloc,
@@ -394,7 +394,7 @@ fn flag<'a>(alloc: Global, name: &'a str, help: &'a str) -> Arg<'a>
 
 /// An option for a number from 1 to `most`.
 fn count<'a>(alloc: Global, name: &'a str, default: &'a str, most: u64, help: &'a str) -> Arg<'a>
-    ensures { rule_of result ≡ line.count name.now default.now most }
+    ensures { rule_of result ≡ line.count_option name.now default.now most }
 {
     number(alloc, name, default, ValueParser::unsigned(1, most), help)
 }

@@ -1,4 +1,5 @@
-//! What tells a version of an object from other operations, and which objects there are.
+//! What tells a version of an object from other operations, what an aim at operations holds, and
+//! which objects there are.
 //!
 //! - [`telling`]: of a group, the last operation of each site against each of the others.
 //! - [`aim_at`]: the aim at operations, with what they aim at themselves.

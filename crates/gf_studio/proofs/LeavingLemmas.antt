@@ -23,7 +23,7 @@ use Rattle.gf_studio.specs.declared.painting.Format.TheVariants as format
 use Rattle.gf_studio.specs.FigRun.{Draws}
 use Rattle.gf_studio.specs.PaintRun.{IsMeant, WritesPicture}
 use Rattle.gf_studio.specs.PictureParts.{IsWindowOver}
-use Rattle.gf_studio.specs.PictureRun.{IsShownBy, IsWindowOf, Paints, PaintsBands}
+use Rattle.gf_studio.specs.PictureRun.{IsShownBy, IsWindowOf, PaintsBands, PaintsInput}
 use Rattle.gf_run.specs.RunAnswers.{WritesPrefix}
 
 -- a window over a drawing is one of what has this drawing
@@ -87,7 +87,7 @@ module _ (f : Format) (e : Extent) (w : View) (colour : Point → Rgb) (old new 
 
   pub prefix : (left : Option (List ℕ)) → IsAsked f e left w colour
       → AppendsPrefix old new (picture colour w)
-      → IfSome left (λ bytes. WritesPrefix (Paints f e bytes) old new)
+      → IfSome left (λ bytes. WritesPrefix (PaintsInput f e bytes) old new)
   prefix None asked written = tt
   prefix (Some bytes) asked written = record {
     text = picture colour w;

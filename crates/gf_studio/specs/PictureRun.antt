@@ -56,8 +56,9 @@ RefusesFormat Lines bytes = RefusesLines bytes
 RefusesFormat Fig bytes = RefusesFig bytes
 
 -- the text is the picture, in the window that the extent asks for, of an input of this format
-abbrev pub Paints : Format → Extent → List ℕ → List ℕ → Type 0
-Paints format extent bytes = IsPictureIn (IsWindowOf format extent bytes) (IsShownBy format bytes)
+abbrev pub PaintsInput : Format → Extent → List ℕ → List ℕ → Type 0
+PaintsInput format extent bytes =
+    IsPictureIn (IsWindowOf format extent bytes) (IsShownBy format bytes)
 
 -- known bytes grow from old to new by the header and whole bands of that picture
 abbrev pub PaintsBands : Format → Extent → List ℕ → Option (List ℕ) → Option (List ℕ) → Type 0

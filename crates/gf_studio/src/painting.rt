@@ -4,7 +4,7 @@ ghost use Rattle.std.specs.Prelude.{◌≤◌, IfSome, IfOk, IfErr};
 ghost use Rattle.gf_fit.specs.FittedWindow.{held};
 ghost use Rattle.gf_studio.specs.PaintRun.{WritesPicture};
 ghost use Rattle.gf_studio.specs.PictureParts.{IsWindowOver};
-ghost use Rattle.gf_studio.specs.PictureRun.{IsShownBy, IsWindowOf, LeavesOut, Paints};
+ghost use Rattle.gf_studio.specs.PictureRun.{IsShownBy, IsWindowOf, LeavesOut, PaintsInput};
 ghost use Rattle.gf_studio.specs.PictureRun.{PaintsBands, RefusesFormat};
 ghost use Rattle.gf_run.specs.RunAnswers.{LeavesPicture, ReadsInput};
 
@@ -83,8 +83,9 @@ pub fn picture_run<T: Threads + Sync, R: Source, W: Sink, G: Gate + Sync>(
 
     // A prefix of the picture is written where the sink failed. Want of memory leaves nothing, or
     // the header and whole bands. With any other error nothing is written.
-    ensures sink { LeavesPicture W.Sink (R.left source.old) (Paints picture.format picture.extent)
-        sink.old sink.new (PaintsBands picture.format picture.extent) result }
+    ensures sink { LeavesPicture W.Sink (R.left source.old)
+        (PaintsInput picture.format picture.extent) sink.old sink.new
+        (PaintsBands picture.format picture.extent) result }
 {
     match picture.format {
         Format::Lines => {
