@@ -4,7 +4,6 @@ use Rattle.std.specs.Prelude.{◌≡◌, ◌↔◌, ◌⊎◌, ◌<◌, ℕ, Lis
 use Rattle.std.specs.List.Sorted.{IsStrictlySortedBy}
 use Rattle.gf_shape.specs.declared.any_shape.AnyShape.{AnyShape}
 use Rattle.gf_ops.specs.declared.op.Op.{Op}
-use Rattle.gf_ops.specs.declared.op.ObjectId.{ObjectId}
 use Rattle.gf_ops.specs.declared.op.OpId.{OpId}
 use Rattle.gf_ops.specs.OperationOrder.{id_cmp}
 use Rattle.gf_ops.specs.Version.{IsMember}

@@ -1,29 +1,19 @@
 -- What a site makes behind its base of a history joins the operations that deliver the history, in
 -- whatever order they come.
-use Rattle.std.specs.Prelude.{Contains, ◌⊎◌}
-use Rattle.std.proofs.Common.{◌≡◌, ◌≢◌, ℕ, ◌+◌, ◌≤◌, List, [], ◌∷◌, ◌++◌, refl, sym, ap}
+use Rattle.std.specs.Prelude.{Contains}
+use Rattle.std.proofs.Common.{◌≡◌, ℕ, List, [], ◌∷◌, ◌++◌, refl, sym, ap}
 use Rattle.std.proofs.Common.{append_assoc, subst}
-use Rattle.std.proofs.Common.{◌∙◌, inl, inr, arith}
-use Rattle.std.proofs.lemmas.Bool.{cases_lt, cases_eq}
+use Rattle.std.proofs.Common.{◌∙◌, inl, inr}
 use Rattle.std.proofs.lemmas.List.{append-nil}
 use Rattle.std.proofs.lemmas.List.Elements.{Contains-append_cases, Contains-append_left}
-use Rattle.std.proofs.lemmas.List.Elements.{Contains-append_right, Contains-push}
+use Rattle.std.proofs.lemmas.List.Elements.{Contains-append_right}
 use Rattle.gf_ops.specs.declared.op.Op.{Op}
-use Rattle.gf_ops.specs.declared.op.OpId.{OpId}
 use Rattle.gf_ops.specs.declared.op.Clock.{Clock}
-use Rattle.gf_ops.specs.OperationOrder.{clock_of, entry, count_of}
+use Rattle.gf_ops.specs.OperationOrder.{clock_of}
 use Rattle.gf_ops.specs.Accepted.{AreAccepted, IsAccepted, next as accepted_next}
 use Rattle.gf_ops.specs.declared.change.Change.{Change}
 use Rattle.gf_ops.specs.ValidHistory.{IsValid}
-use Rattle.gf_ops.proofs.HistoryLemmas.{seq_in_range}
-use Rattle.gf_ops.proofs.ValidityLemmas.{same_op}
-use Rattle.gf_causal.specs.Ready.{IsReady}
-use Rattle.gf_causal.specs.DeliveredPart.{AreOneById, HaveSame, IsDelivery, IsLastDelivery}
-use Rattle.gf_causal.proofs.CourseLemmas.{delivered_part}
-use Rattle.gf_causal.proofs.CourseLemmas.{has_counted, number_counted, same_id}
-use Rattle.gf_causal.proofs.FinishLemmas.{delivery-push}
 use Rattle.gf_site.specs.SiteState.{authored}
-use Rattle.gf_site.proofs.CourseLemmas.{all_ready}
 use Rattle.gf_site.specs.ReplicaState.{ReplicaState}
 use Rattle.gf_replay.specs.Behind.{HasDelivered}
 use Rattle.gf_replay.specs.Denoting.{Delivers}

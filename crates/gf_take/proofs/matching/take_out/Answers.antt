@@ -2,7 +2,6 @@ use Rattle.std.proofs.Common.{rules, arith, ◌≡◌, ◌<◌, get_or, length, 
 use Rattle.std.proofs.Common.{subst, take}
 use Rattle.std.specs.Prelude.{All}
 use Rattle.gf_shape.specs.Outlines.{any_outline}
-use Rattle.gf_take.specs.Matching.{IsLikeAt, IsTraced}
 use Rattle.gf_take.specs.ShownDrawing.{CanSwap}
 use Rattle.gf_take.proofs.ExchangeLemmas.{none_like}
 use Rattle.gf_take.proofs.MatchLemmas.{takes_like, takes_none}

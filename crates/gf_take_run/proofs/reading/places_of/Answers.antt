@@ -1,4 +1,4 @@
-use Rattle.std.proofs.Common.{BTreeMap, None, Option, Some, get_or, subst, sym, ◌≡◌, ◌+◌}
+use Rattle.std.proofs.Common.{BTreeMap, Option, get_or, subst, sym, ◌≡◌, ◌+◌}
 use Rattle.gf_ops.specs.declared.op.ObjectId.{ObjectId}
 use Rattle.gf_table.specs.declared.positions.Positions.{Positions}
 use Rattle.gf_fig_named.specs.declared.reading.Named.{Named}

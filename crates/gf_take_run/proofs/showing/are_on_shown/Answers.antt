@@ -1,4 +1,3 @@
-use Rattle.std.proofs.Common.{List, subst}
 use Rattle.gf_ops.specs.declared.op.Op.{Op}
 use Rattle.gf_take_run.specs.ShownItems.{IsOnOne}
 use Rattle.gf_take_run.proofs.LeavingLemmas.{all_more}
