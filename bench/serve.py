@@ -2,12 +2,15 @@
 """Measures a gesture by `figgroup serve`, beside the commands: a take of one moved figure with names, and the status then.
 
     bench/serve.py [FIGURES OPERATIONS]     without words: 10, 100 and 1,000 figures by 1,000, 10,000 and 79,840 operations
+    bench/serve.py many                     a take that changes all of 250, 500 and 1,000 figures of 2,000 operations
 
 Each gesture is made by both, one after the other. The milliseconds are those of the clock at the median of 20. The aim is
-that 79,840 operations take at most twice as long as 1,000. To begin is to give all lines to a new process. It needs
-python3-tornado and python3-selenium, which the tests of the page need, and little other work on the machine."""
+that 79,840 operations take at most twice as long as 1,000. To begin is to give all lines to a new process. Of takes that
+change many figures it is the least of five, each of a new process, and how many times as long 1,000 figures take as 500.
+It needs python3-tornado and python3-selenium, which the tests of the page need, and little other work on the machine."""
 import json
 import pathlib
+import re
 import statistics
 import subprocess
 import sys
@@ -83,6 +86,61 @@ def measured(figures, count):
     return begun, *map(statistics.median, zip(*rows))
 
 
+def parted(text):
+    """What stands before the figures of a named text, and the lines of each figure."""
+    return re.split(r'(?m)^(?=# figgroup \d+\.\d+ at )', text)
+
+
+def changed(figure, by=0, depth=None, keeps_name=True):
+    """A figure so far to the right, at this depth, with its name or without."""
+    lines = []
+    for line in figure.split('\n'):
+        words = line.split()
+        if line.startswith('\t'):
+            lines.append('\t ' + ' '.join(str(int(word) + by * (i % 2 == 0)) for i, word in enumerate(words)))
+        elif line.startswith('#'):
+            lines += [line] * keeps_name
+        else:
+            for i in (12, 16, 18) if line.startswith('1 ') else ():
+                words[i] = str(int(words[i]) + by)
+            if depth is not None and words:
+                words[6] = str(depth)
+            lines.append(' '.join(words))
+    return '\n'.join(lines)
+
+
+# How a drawing is changed: what is taken of its head and its figures.
+MANY = {
+    'one is moved': lambda figures: [changed(figures[0], 5), *figures[1:]],
+    'all are moved': lambda figures: [changed(figure, 5) for figure in figures],
+    'all are drawn anew': lambda figures: [changed(figure, 5, keeps_name=False) for figure in figures],
+    'all are deleted': lambda figures: [],
+    'all are shown again': lambda figures: figures,
+    'all are in the reverse order': lambda figures: [changed(f, depth=999 - i) for i, f in enumerate(figures)],
+}
+
+
+def take_of_many(lines, change):
+    """The milliseconds of a take that changes a drawing so."""
+    server = Serving()
+    server.ask({'do': 'lines'}, lines)
+    head, *figures = parted(server.ask({'do': 'named'}).decode())
+    if change == 'all are shown again':
+        server.ask({'do': 'take', 'site': 1, 'named': True}, head.encode())
+    text = head + ''.join(MANY[change](figures))
+    _, taken = timed(server.ask, {'do': 'take', 'site': 1, 'named': True}, text.encode())
+    server.end()
+    return taken
+
+
+def measure_many():
+    print('| change | 250 figures | 500 | 1,000 | times that of 500 |')
+    print('|---|---|---|---|---|')
+    for change in MANY:
+        row = [min(take_of_many(b''.join(lines_of(figures, 2000)), change) for _ in range(5)) for figures in (250, 500, 1000)]
+        print(f'| {change} | {row[0]:.1f} | {row[1]:.1f} | {row[2]:.1f} | {row[2] / row[1]:.2f} |', flush=True)
+
+
 def main():
     told = [int(word) for word in sys.argv[1:]]
     print('| figures | operations | a gesture | times that with the least operations | the commands | to begin |')
@@ -96,4 +154,4 @@ def main():
             print(f'| {figures} | {count} | {by_server:.1f} | {times} | {by_commands_of:.1f} | {begun:.1f} |', flush=True)
 
 
-main()
+measure_many() if sys.argv[1:] == ['many'] else main()
