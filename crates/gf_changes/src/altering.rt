@@ -231,7 +231,7 @@ fn hide_of(
     changes: &mut Vec<Change>,
 ) -> Result<(), OutOfMemory> {
     let mut whole = Vec::new(alloc);
-    whole.push(set_shown(object, false, Ids::new(Vec::new(alloc))))?;
+    whole.push(Change::set_shown(object, false, Ids::new(Vec::new(alloc))))?;
     for rank in shown.of_object(object) {
         if let Some(version) = shown.versions.get(rank.index) {
             if matching.has_figure(rank.index) {
@@ -239,7 +239,7 @@ fn hide_of(
                 if MOST_AIMED < aim.as_slice().len() {
                     return hide_each(alloc, shown, matching, object, changes);
                 }
-                whole.push(set_shown(object, true, aim))?;
+                whole.push(Change::set_shown(object, true, aim))?;
             }
         }
     }
@@ -264,13 +264,4 @@ fn hide_each(
         }
     }
     change_all(alloc, shown, wishes, changes)
-}
-
-/// The change that shows an object, or hides it, in the versions that have the aim.
-pub(crate) fn set_shown(object: ObjectId, shown: bool, aim: Ids) -> Change {
-    Change::Set {
-        object,
-        value: Value::Shown(shown),
-        aim,
-    }
 }

@@ -2,7 +2,6 @@
 
 use crate::Target;
 use crate::aiming::{MOST_AIMED, aim_to_keep};
-use crate::altering::set_shown;
 use crate::comparing::is_alike;
 use crate::matching::is_named;
 use crate::ranks::{Rank, ranks_by_object, ranks_of};
@@ -60,7 +59,7 @@ pub fn showing_again(
             if MOST_AIMED < aim.as_slice().len() {
                 return Ok(None);
             }
-            return Ok(Some(set_shown(version.key.object, true, aim)));
+            return Ok(Some(Change::set_shown(version.key.object, true, aim)));
         }
     }
     Ok(None)

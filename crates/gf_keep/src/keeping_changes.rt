@@ -3,8 +3,6 @@
 ghost use Rattle.std.specs.Prelude.{◌≡◌, ◌≢◌, ◌∷◌, ◌++◌, [], ◌==◌, IfOk, IfErr, length};
 ghost use Rattle.std.specs.List.{AllZip};
 ghost use Rattle.gf_groups.specs.Versions.{IsMade};
-ghost use Rattle.gf_ops.specs.declared.change.Change.TheVariants.{Set};
-ghost use Rattle.gf_ops.specs.declared.change.Value.TheVariants.{Shown};
 ghost use Rattle.gf_keep.specs.Keeping.{AreKeeping, AreKept, IsShowing, hiding};
 ghost use Rattle.gf_keep.specs.KeepFaults.{RefusesKeep};
 ghost use Rattle.gf_keep.specs.KeepSteps.{AreIdsOn, AreOfObject, AreShowings};
@@ -14,7 +12,7 @@ use crate::visible::kept_groups;
 use crate::{Keep, KeepFault};
 use gf_base::OutOfMemory;
 use gf_groups::{Group, is_made};
-use gf_ops::{Change, History, Ids, ObjectId, OpId, Value};
+use gf_ops::{Change, History, Ids, ObjectId, OpId};
 use std::alloc::Global;
 
 /// The changes that keep versions of an object behind a history. The first one hides the object
@@ -72,21 +70,10 @@ fn changes_of(
 {
     let others = ids_on(alloc, history, object)?;
     let mut changes = Vec::new(alloc);
-    changes.push(set_shown(object, false, Ids::new(Vec::new(alloc))))?;
+    changes.push(Change::set_shown(object, false, Ids::new(Vec::new(alloc))))?;
     for group in groups {
         let aim = aim_to_keep(alloc, history, group, &others)?;
-        changes.push(set_shown(object, true, aim))?;
+        changes.push(Change::set_shown(object, true, aim))?;
     }
     Ok(changes)
-}
-
-/// The change that shows an object or hides it.
-fn set_shown(object: ObjectId, shown: bool, aim: Ids) -> Change
-    ensures { result ≡ Set object (Shown shown) aim }
-{
-    Change::Set {
-        object,
-        value: Value::Shown(shown),
-        aim,
-    }
 }

@@ -2,6 +2,8 @@
 
 ghost use Rattle.std.specs.Prelude.{◌≡◌, ◌<◌};
 ghost use Rattle.gf_ops.specs.Attribute.{attribute_index, attribute_of};
+ghost use Rattle.gf_ops.specs.declared.change.Change.TheVariants.{Set};
+ghost use Rattle.gf_ops.specs.declared.change.Value.TheVariants.{Shown};
 
 use crate::{Ids, ObjectId, Points};
 use gf_plane::{Point, Rgb};
@@ -80,6 +82,19 @@ pub enum Change {
         value: Value,
         aim: Ids,
     },
+}
+
+impl Change {
+    /// The change that shows an object, or hides it, in the versions that hold all of the aim.
+    pub fn set_shown(object: ObjectId, shown: bool, aim: Ids) -> Change
+        ensures { result ≡ Set object (Shown shown) aim }
+    {
+        Change::Set {
+            object,
+            value: Value::Shown(shown),
+            aim,
+        }
+    }
 }
 
 impl Value {

@@ -76,7 +76,7 @@ fn by_sides(
     )
 }
 
-/// Those of the classes that hide, show, or conflict with one that hides.
+/// The classes that hide, show, or conflict with one that hides, in their order.
 fn deciding_of(
     alloc: Global,
     timeline: &Timeline<'_>,
