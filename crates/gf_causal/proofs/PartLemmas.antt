@@ -33,28 +33,30 @@ module _ (h part : List Op) (valid : IsValid h) (within : (a : Op) → Contains 
       let t = valid.closed a there b.id
       (record { site = site_in_range b r; first = (seq_in_range b r).0; last = known }) in
       subst (λ (x : Op). entry x.past s ≤ entry a.past s)
-      (same_op h valid t.op b t.contained (within b c) t.id) (t.past s i)
+      (same_op h valid t.op b t.contained (within b c) t.id) (t.such s i)
 
   -- the creation that it knows in h is in the part, which has each number up to its count
   suited_within : (c : Change) → IsSuited h a c → IsSuited part a c
   suited_within (Create start) s = tt
   suited_within (Set o v aim) s =
-      let k = s.known in
-      let known = k.before in
-      let r = valid.in_range k.maker k.contained in
-      let first = (seq_in_range k.maker r).0 in
-      let most = counts_known k.maker.id.site (site_in_range k.maker r) in
-      let t = has_counted in_turn k.maker.id first (omega arith) in
-      let same = same_op h valid t.op k.maker (within t.op t.contained) k.contained
-      (same_id t.op k.maker t.site t.seq) in
+      let k = s.known.made in
+      let known = s.known.before in
+      let r = valid.in_range k.op k.contained in
+      let first = (seq_in_range k.op r).0 in
+      let most = counts_known k.op.id.site (site_in_range k.op r) in
+      let t = has_counted in_turn k.op.id first (omega arith) in
+      let same = same_op h valid t.op k.op (within t.op t.contained) k.contained
+      (same_id t.op k.op t.site t.seq) in
       record {
         kind = s.kind;
         known = record {
-          maker = k.maker;
-          contained = subst (Contains part) same t.contained;
-          id = k.id;
-          kind = k.kind;
-          before = k.before;
+          made = record {
+            op = k.op;
+            contained = subst (Contains part) same t.contained;
+            id = k.id;
+            such = k.such;
+          };
+          before = known;
         };
         suited = s.suited;
       }
@@ -69,6 +71,7 @@ module _ (h part : List Op) (valid : IsValid h) (within : (a : Op) → Contains 
         op = t.op;
         contained = t.contained;
         id = λ j. record { site = t.site j; seq = t.seq j };
+        such = tt;
       }
 
   pub part_accepts : IsAccepted part a

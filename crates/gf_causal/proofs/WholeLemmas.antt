@@ -76,7 +76,7 @@ module _ (offered h added : List Op) (valid : IsValid h) (same : HaveSame offere
         let q = ap (λ (j : OpId). j.seq) t.id in
         let p = ap (λ (j : OpId). j.site) t.id in
         let e : t.op.id.seq ≤ entry a.past t.op.id.site = rw p (omega arith) in
-        let w = knew_less a t.op t.contained t.past e in
+        let w = knew_less a t.op t.contained t.such e in
         let x = number_counted l.delivery.in_turn t.op
         (all_delivered n t.op t.contained (omega arith)) in
         let y = subst (λ s. t.op.id.seq ≤ count_of added s) p x in omega arith

@@ -81,12 +81,12 @@ creation_free h valid a b ca cb s made c = by b.change refl
         ∙ ap (λ d. (changed_object b.id d).0) e) in
         c.concurrent.different (one_op h valid a b ca cb ids)
     by (Set o v aim) e =
-        let k = subst (IsSuited h b) e (valid.suited b cb) in
-        let ids : k.known.maker.id ≡ a.id = k.known.id
+        let k = (subst (IsSuited h b) e (valid.suited b cb)).known in
+        let ids : k.made.op.id ≡ a.id = k.made.id
         ∙ (ap (λ d. (changed_object b.id d).0) (sym e)
         ∙ (ap (λ (p : ObjectId). p.0) (sym c.one_object) ∙ own)) in
         c.concurrent.not_before (subst (λ (z : Op). Precedes z b)
-        (one_op h valid k.known.maker a k.known.contained ca ids) k.known.before)
+        (one_op h valid k.made.op a k.made.contained ca ids) k.before)
 
 -- ---- classes
 

@@ -64,8 +64,8 @@ module _ (h : List Op) (us : List ℕ) (s : DirectState) (valid : IsValid h)
       → (object_of x ≡ given.object) × Contains h x
   brought_on a x on there b = elim b [
     | inl e ↦ (ap object_of e ∙ on, subst (Contains h) (sym e) there)
-    | inr m ↦ let w = (valid.aimed a there).each x.id m.aimed in (
-      ap object_of (sym (same_op h valid w.op x w.contained m.contained w.id)) ∙ (w.object ∙ on),
+    | inr m ↦ let w = ((valid.aimed a there).each x.id m.aimed).on in (
+      ap object_of (sym (same_op h valid w.op x w.contained m.contained w.id)) ∙ (w.such ∙ on),
       m.contained,
     )
   ]

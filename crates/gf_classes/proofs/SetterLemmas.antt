@@ -207,7 +207,7 @@ module _ (h : List Op) (valid : IsValid h) (o : ObjectId) (us : List ℕ)
             last = subst (λ z. a.id.seq ≤ entry b.past z) (sym e) up;
           }) in
           subst (λ (z : Op). IsWithin z.past b.past) (one_op h valid k.op a k.contained c k.id)
-          k.past
+          k.such
       | inr m ↦
           let same : a.id.seq ≡ b.id.seq = omega (arith, l, m) in
           let ids : a.id ≡ b.id = λ i. record { site = e i; seq = same i } in

@@ -30,17 +30,9 @@ founded : (h : List Op) (a : Op) (c : Change) → a.change ≡ c → Contains h 
     → IsMade h (changed_object a.id c)
 founded h a (Create start) e i s = record {
   kind = kind_of start.form;
-  made = record { maker = a; contained = i; id = refl; kind = rw e refl };
+  made = record { op = a; contained = i; id = refl; such = rw e refl };
 }
-founded h a (Set o v aim) e i s = record {
-  kind = s.kind;
-  made = record {
-    maker = s.known.maker;
-    contained = s.known.contained;
-    id = s.known.id;
-    kind = s.known.kind;
-  };
-}
+founded h a (Set o v aim) e i s = record { kind = s.kind; made = s.known.made }
 
 module _ (h : List Op) (valid : IsValid h) (a : Op) (there : Contains h a) where
   made : IsMade h (object_of a)

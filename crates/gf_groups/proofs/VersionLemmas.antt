@@ -72,24 +72,24 @@ module _ (h : List Op) (valid : IsValid h) (o : ObjectId) (us : List ℕ) (all :
       → IsLargest (conflict_at h) (Contains us) (Contains g) → IsVersion h o (rising_ids h g)
   version_of_largest made g m =
       let maker = made.made in
-      let object : object_of maker.maker ≡ o = let e = made_object maker.maker.id maker.maker.change
-      made.kind maker.kind ∙ maker.id in λ i. record { 0 = e i } in
+      let object : object_of maker.op ≡ o = let e = made_object maker.op.id maker.op.change
+      made.kind maker.such ∙ maker.id in λ i. record { 0 = e i } in
       record {
         rising = rising_ids-rising h g;
         created = record {
-          op = maker.maker;
+          op = maker.op;
           contained = maker.contained;
           id = maker.id;
-          object = object;
+          such = object;
         };
-        makes = subst (λ k. IsSome k) (sym maker.kind) refl;
+        makes = subst (λ k. IsSome k) (sym maker.such) refl;
         members = λ i c.
             let t = (Contains-rising_ids h g i).0 c in
             record {
               op = t.op;
               contained = contained_at h t.position t.op t.at;
               id = t.id;
-              object = on_us t.position t.op t.at (m.within t.position t.contained);
+              such = on_us t.position t.op t.at (m.within t.position t.contained);
             };
         compatible = λ a b x y k.
             let s = op_at_id g a x.contained ((Contains-rising_ids h g a.id).0 x.grouped) in
@@ -132,7 +132,7 @@ module _ (h : List Op) (valid : IsValid h) (o : ObjectId) (us : List ℕ) (all :
   member_on : (q : List OpId) → IsVersion h o q → (a : Op) → Contains h a → Contains q a.id
       → object_of a ≡ o
   member_on q v a c k = let t = v.members a.id k in
-      subst (λ (b : Op). object_of b ≡ o) (same_op h valid t.op a t.contained c t.id) t.object
+      subst (λ (b : Op). object_of b ≡ o) (same_op h valid t.op a t.contained c t.id) t.such
 
   pub largest_of_version : (q : List OpId) → IsVersion h o q
       → IsLargest (conflict_at h) (Contains us) (Contains (positions_in q))
@@ -183,7 +183,7 @@ module _ (h : List Op) (valid : IsValid h) (o : ObjectId) (us : List ℕ) (all :
             (record {
               position = p.0;
               op = t.op;
-              contained = keep q p.0 t.op p.1 t.object (subst (Contains q) (sym t.id) c);
+              contained = keep q p.0 t.op p.1 t.such (subst (Contains q) (sym t.id) c);
               at = p.1;
               id = t.id;
             }),

@@ -18,7 +18,8 @@ use Rattle.gf_ops.specs.declared.op.ObjectId.{ObjectId}
 use Rattle.gf_ops.specs.Attribute.{Kind, made_kind, object_of}
 use Rattle.gf_ops.specs.Conflict.{Conflict}
 use Rattle.gf_ops.specs.OperationOrder.{id_cmp}
-use Rattle.gf_ops.specs.Version.{HasOn, IsMember, ConflictsWithin, IsVersion}
+use Rattle.gf_ops.specs.Version.{IsMember, ConflictsWithin, IsVersion}
+use Rattle.gf_ops.specs.HasOperation.{HasOn}
 use Rattle.gf_base.proofs.ListLemmas.{Contains-cons_cases, Contains-cons_head, Contains-cons_tail}
 use Rattle.gf_base.proofs.ListLemmas.{Contains-map, Contains-map_from, not_Contains-nil}
 use Rattle.gf_groups.specs.declared.group.Group.{Group}
@@ -81,12 +82,12 @@ module _ (h : List Op) (o : ObjectId) where
                 op = w.0;
                 contained = p.0;
                 id = sym w.2;
-                object = p.1;
+                such = p.1;
               }
         ],
         λ t. all.1 (inr (subst (Contains (map (λ (a : Op). a.id) (ops_on h o))) t.id
             (Contains-map (λ (a : Op). a.id) (ops_on h o) t.op
-            ((on_object t.op).1 (t.contained, t.object))))),
+            ((on_object t.op).1 (t.contained, t.such))))),
       )
 
   -- ---- the tests
@@ -150,14 +151,14 @@ module _ (h : List Op) (o : ObjectId) where
             p.1 in let m = made.made in record {
               rising = sublist_rising id_cmp id_cmp_total (ids_on h o) g ids_rise p.0;
               created = record {
-                op = m.maker;
+                op = m.op;
                 contained = m.contained;
                 id = m.id;
-                object = λ k. record {
-                  0 = (made_object m.maker.id m.maker.change made.kind m.kind ∙ m.id) k;
+                such = λ k. record {
+                  0 = (made_object m.op.id m.op.change made.kind m.such ∙ m.id) k;
                 };
               };
-              makes = subst IsSome (sym m.kind) refl;
+              makes = subst IsSome (sym m.such) refl;
               members = λ i j. (ids_held i).0 (sublist_within (ids_on h o) g p.0 i j);
               compatible = apart g tests.0;
               largest = covers g tests.1;
@@ -184,7 +185,7 @@ module _ (h : List Op) (o : ObjectId) where
             let m = v.members i c in
             let out : ¬ (Contains k m.op.id) = λ d. let t = list_any_from (id_eq i) k m.op.id d
             ((id_decided i m.op.id).1 (sym m.id)) in absurd cc in
-            let clash = w.largest m.op m.contained m.object out in
+            let clash = w.largest m.op m.contained m.such out in
             absurd (v.compatible m.op clash.member
             (record { contained = m.contained; grouped = subst (Contains g) (sym m.id) c })
             (record {
@@ -252,7 +253,7 @@ made_listed : (h : List Op) (a : Op) (k : Option Kind) → Contains h a → made
 made_listed h a None i e g c = absurd (not_Contains-nil g c)
 made_listed h a (Some k) i e g c =
     let p = ((are_versions h (record { 0 = a.id })
-    (record { kind = k; made = record { maker = a; contained = i; id = refl; kind = e } })).exactly
+    (record { kind = k; made = record { op = a; contained = i; id = refl; such = e } })).exactly
     g).0 c in p.1
 
 made_held : (h : List Op) (a : Op) (k : Option Kind) → Contains h a → made_kind a.change ≡ k
@@ -261,7 +262,7 @@ made_held : (h : List Op) (a : Op) (k : Option Kind) → Contains h a → made_k
 made_held h a None i e s g id v = absurd cc
 made_held h a (Some k) i e s g id v =
     ((are_versions h (record { 0 = a.id })
-    (record { kind = k; made = record { maker = a; contained = i; id = refl; kind = e } })).exactly
+    (record { kind = k; made = record { op = a; contained = i; id = refl; such = e } })).exactly
     g).1 ((λ j. record { 0 = sym id j }), v)
 
 abbrev versions_among : List Op → List Op → List Group

@@ -8,7 +8,8 @@ use Rattle.gf_ops.specs.declared.op.Op.{Op}
 use Rattle.gf_ops.specs.declared.op.ObjectId.{ObjectId}
 use Rattle.gf_ops.specs.Attribute.{Kind}
 use Rattle.gf_ops.specs.OperationOrder.{id_cmp}
-use Rattle.gf_ops.specs.Version.{IsOfKind, IsVersion}
+use Rattle.gf_ops.specs.Version.{IsVersion}
+use Rattle.gf_ops.specs.HasOperation.{IsOfKind}
 use Rattle.gf_groups.specs.declared.group.Group.{Group}
 
 -- h has an operation that made the object o

@@ -97,14 +97,13 @@ module _ (h : List Op) (valid : IsValid h) (made : (a : Op) → Contains h a →
   alone a s c e = record {
     rising = rising_cons id_cmp id_cmp_total a.id [] (All-nil (λ y. id_cmp a.id y ≡ Less))
         (rising_nil id_cmp id_cmp_total);
-    created = record { op = a; contained = c; id = refl; object = own_object a s e };
+    created = record { op = a; contained = c; id = refl; such = own_object a s e };
     makes = rw e refl;
     members = λ i m. record {
       op = a;
       contained = c;
       id = sym (in_one a.id i m);
-      object = own_object
-          a s e;
+      such = own_object a s e;
     };
     compatible = λ b d m n clash.
         let first = brings_itself b clash.first m.contained clash.brings_first in
@@ -122,7 +121,7 @@ module _ (h : List Op) (valid : IsValid h) (made : (a : Op) → Contains h a →
       → IsVersionOf h (first_version a s)
   first_is_version a s c e = record {
     version = alone a s c e;
-    kind = record { maker = a; contained = c; id = refl; kind = ap made_kind e };
+    kind = record { op = a; contained = c; id = refl; such = ap made_kind e };
     form = settled a s (form_attribute s.form) (form_value s.form) c e (form_start s s.form refl);
     place = settled a s attr.Place _ c e refl;
     colour = settled a s attr.Colour _ c e refl;
@@ -143,7 +142,7 @@ module _ (h : List Op) (valid : IsValid h) (made : (a : Op) → Contains h a →
             let on = v.members i c in
             let k = made on.op on.contained in
             let same : i ≡ o.0 = sym on.id ∙ ap (λ (p : ObjectId). p.0)
-            (sym (own_object on.op k.start k.is) ∙ on.object) in
+            (sym (own_object on.op k.start k.is) ∙ on.such) in
             subst (Contains (o.0 ∷ [])) (sym same) (Contains-cons_head o.0 []),
         λ c. subst (Contains g) (sym (in_one o.0 i c)) there,
       ))
@@ -152,7 +151,7 @@ module _ (h : List Op) (valid : IsValid h) (made : (a : Op) → Contains h a →
   version_is_first v is =
       let maker = is.version.created in
       let k = made maker.op maker.contained in
-      let object : v.key.object ≡ record { 0 = maker.op.id } = sym maker.object
+      let object : v.key.object ≡ record { 0 = maker.op.id } = sym maker.such
       ∙ own_object maker.op k.start k.is in
       let ops : v.key.ops ≡ maker.op.id ∷ [] = group_alone v.key.object v.key.ops is.version
       ∙ ap (λ i. i ∷ []) (sym maker.id) in

@@ -63,10 +63,12 @@ knows_object h valid o g v a counts =
     record {
       kind = made.0;
       known = record {
-        maker = v.created.op;
-        contained = v.created.contained;
-        id = v.created.id;
-        kind = made.1;
+        made = record {
+          op = v.created.op;
+          contained = v.created.contained;
+          id = v.created.id;
+          such = made.1;
+        };
         before = knows_all h valid a counts v.created.op v.created.contained;
       };
     }

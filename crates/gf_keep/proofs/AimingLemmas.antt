@@ -11,7 +11,8 @@ use Rattle.gf_ops.specs.declared.op.OpId.{OpId}
 use Rattle.gf_ops.specs.declared.op.ObjectId.{ObjectId}
 use Rattle.gf_ops.specs.Attribute.{object_of}
 use Rattle.gf_ops.specs.ValidHistory.{IsValid}
-use Rattle.gf_ops.specs.Version.{HasOn, IsMember}
+use Rattle.gf_ops.specs.Version.{IsMember}
+use Rattle.gf_ops.specs.HasOperation.{HasOn}
 use Rattle.gf_ops.proofs.ValidityLemmas.{same_op}
 use Rattle.gf_groups.specs.declared.group.Group.{Group}
 use Rattle.gf_names.specs.Aiming.{AreBroughtFrom}
@@ -34,15 +35,15 @@ module _ (h : List Op) (o : ObjectId) (n : ℕ) (d : Op) (within : n < length h)
     contained = subst (λ (s : List Op). Contains s t.op) (sym more)
         (Contains-append_left (take n h) (here ∷ []) t.op t.contained);
     id = t.id;
-    object = t.object;
+    such = t.such;
   }
 
   cases : (i : OpId) → HasOn (take (n + 1) h) o i
       → HasOn (take n h) o i ⊎ ((here.id ≡ i) × (object_of here ≡ o))
   cases i t = elim (Contains-push_cases (take n h) here t.op
       (subst (λ (s : List Op). Contains s t.op) more t.contained)) [
-        | inl c ↦ inl (record { op = t.op; contained = c; id = t.id; object = t.object })
-        | inr e ↦ inr (ap (λ (x : Op). x.id) e ∙ t.id, ap object_of e ∙ t.object)
+        | inl c ↦ inl (record { op = t.op; contained = c; id = t.id; such = t.such })
+        | inr e ↦ inr (ap (λ (x : Op). x.id) e ∙ t.id, ap object_of e ∙ t.such)
       ]
 
   pub on_more : (old new : List OpId) → object_of here ≡ o
@@ -56,7 +57,7 @@ module _ (h : List Op) (o : ObjectId) (n : ℕ) (d : Op) (within : n < length h)
         contained = subst (λ (s : List Op). Contains s here) (sym more)
             (Contains-push (take n h) here);
         id = f;
-        object = on;
+        such = on;
       }
     ],
     λ t. subst (λ (s : List OpId). Contains s i) (sym e) (elim (cases i t) [
@@ -86,7 +87,7 @@ module _ (h : List Op) (valid : IsValid h) (g : Group) (others : List OpId)
   member_on : (x : Op) → IsMember h others x → IsOn h g.object x
   member_on x m = let t = (on x.id).0 m.grouped in record {
     contained = m.contained;
-    object = ap object_of (same_op h valid x t.op m.contained t.contained (sym t.id)) ∙ t.object;
+    object = ap object_of (same_op h valid x t.op m.contained t.contained (sym t.id)) ∙ t.such;
   }
 
   on_member : (x : Op) → IsOn h g.object x → IsMember h others x
@@ -96,7 +97,7 @@ module _ (h : List Op) (valid : IsValid h) (g : Group) (others : List OpId)
       op = x;
       contained = t.contained;
       id = refl;
-      object = t.object;
+      such = t.object;
     });
   }
 

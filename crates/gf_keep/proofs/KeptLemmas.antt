@@ -28,11 +28,12 @@ use Rattle.gf_ops.specs.DirectConflict.{DirectConflict}
 use Rattle.gf_ops.specs.OperationOrder.{Precedes, id_cmp}
 use Rattle.gf_ops.specs.SettledValue.{IsSettled}
 use Rattle.gf_ops.specs.ValidHistory.{IsValid}
-use Rattle.gf_ops.specs.Version.{HasOn, IsMember, IsVersion, ConflictsWithin}
+use Rattle.gf_ops.specs.Version.{IsMember, IsVersion, ConflictsWithin}
+use Rattle.gf_ops.specs.HasOperation.{HasOn}
 use Rattle.gf_ops.proofs.ConflictLemmas.{conflict_direct, conflict_carried, version_holds_aims}
 use Rattle.gf_ops.proofs.DirectConflictLemmas.{direct-sym}
 use Rattle.gf_ops.proofs.HistoryLemmas.{seq_in_range, site_in_range}
-use Rattle.gf_ops.proofs.ValidityLemmas.{precedes_irreflexive, precedes_transitive, same_op}
+use Rattle.gf_ops.proofs.ValidityLemmas.{precedes_irreflexive, precedes_transitive, same_op, has_beyond}
 use Rattle.gf_groups.specs.declared.group.Group.{Group}
 use Rattle.gf_names.proofs.OneVersionLemmas.{brought, listed_or_not, one_is_last, one_version}
 use Rattle.gf_keep.specs.Keeping.{IsMark, IsShowing, hiding}
@@ -258,7 +259,7 @@ module _ (h : List Op) (hide : Op) (shows : List Op) (valid : IsValid h)
               contained = m.contained;
               object = let on = (version g show p).members y.id m.grouped in
                   ap object_of (same_op h valid y on.op m.contained on.contained (sym on.id))
-                  ∙ on.object ∙ sym (versions k (listed k x q)).0;
+                  ∙ on.such ∙ sym (versions k (listed k x q)).0;
             };
             last = l;
           }))) in
@@ -305,7 +306,7 @@ module _ (h : List Op) (hide : Op) (shows : List Op) (valid : IsValid h)
         | inl e ↦ absurd (out ((exactly x.id).1 (inr (inr (ap (λ (y : Op). y.id) e)))))
         | inr w ↦
             let on = (version k x q).members w.0 (aim_in k x q w.0 w.1) in
-            let c = (version g show p).largest on.op on.contained on.object
+            let c = (version g show p).largest on.op on.contained on.such
             (λ c. w.2 (subst (Contains g.ops) on.id c)) in
             let at : AimsAt all x on.op = record {
               contained = old on.op on.contained;
@@ -331,12 +332,7 @@ module _ (h : List Op) (hide : Op) (shows : List Op) (valid : IsValid h)
       ]
 
       abbrev has_up : (i : OpId) → HasOn h o i → HasOn all o i
-      has_up i on = record {
-        op = on.op;
-        contained = old on.op on.contained;
-        id = on.id;
-        object = on.object;
-      }
+      has_up i = has_beyond h all old
 
       has_on : (i : OpId) → Contains ids i → HasOn all o i
       has_on i c = elim ((exactly i).0 c) [
@@ -346,13 +342,13 @@ module _ (h : List Op) (hide : Op) (shows : List Op) (valid : IsValid h)
             op = hide;
             contained = later hide hidden;
             id = sym e;
-            object = hide_object;
+            such = hide_object;
           }
           | inr e ↦ record {
             op = show;
             contained = later show (is_new g show p);
             id = sym e;
-            object = show_object g show p;
+            such = show_object g show p;
           }
         ]
       ]
@@ -470,7 +466,7 @@ module _ (h : List Op) (hide : Op) (shows : List Op) (valid : IsValid h)
           member_object : (y : Op) → IsMember h g.ops y → object_of y ≡ o
           member_object y k = let on = (version g show p).members y.id k.grouped in
               ap object_of (same_op h valid y on.op k.contained on.contained (sym on.id))
-              ∙ on.object
+              ∙ on.such
 
       -- what it has of h is of the group
       old_in : (a : Op) → Contains h a → Holds a → Contains g.ops a.id
@@ -479,7 +475,7 @@ module _ (h : List Op) (hide : Op) (shows : List Op) (valid : IsValid h)
         | inr out ↦
             let on = found.members a.id n.grouped in
             let object : object_of a ≡ o = ap object_of
-            (same_op all whole a on.op n.contained on.contained (sym on.id)) ∙ on.object in
+            (same_op all whole a on.op n.contained on.contained (sym on.id)) ∙ on.such in
             let w = (version g show p).largest a i object out in
             absurd (part_calm a w.member i n w.is_member w.conflict)
       ]
@@ -517,7 +513,7 @@ module _ (h : List Op) (hide : Op) (shows : List Op) (valid : IsValid h)
           elim (listed_or_not ids on.op.id) [
             | inl d ↦ subst (Contains ids) on.id d
             | inr out ↦
-                let w = found.largest on.op (old on.op on.contained) on.object out in
+                let w = found.largest on.op (old on.op on.contained) on.such out in
                 absurd (inside_calm g show p on.op w.member (inl k) (is_inside w.member w.is_member)
                 w.conflict)
           ]

@@ -5,7 +5,7 @@ use Rattle.gf_ops.specs.declared.op.Op.{Op}
 use Rattle.gf_ops.specs.declared.op.OpId.{OpId}
 use Rattle.gf_ops.specs.declared.op.ObjectId.{ObjectId}
 use Rattle.gf_ops.specs.declared.change.Change.{Change}
-use Rattle.gf_ops.specs.Version.{HasOn}
+use Rattle.gf_ops.specs.HasOperation.{HasOn}
 use Rattle.gf_groups.specs.declared.group.Group.{Group}
 use Rattle.gf_groups.specs.VersionList.{id_eq}
 use Rattle.gf_keep.specs.Keeping.{IsShowing, hiding}

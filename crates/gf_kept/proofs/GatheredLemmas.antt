@@ -40,15 +40,15 @@ no_items h ops none = record {
 }
 
 pub no_items_yet : (h : List Op) → AreItemsOf h [] []
-no_items_yet h = no_items h [] (λ o w. not_Contains-nil w.made.maker w.made.contained)
+no_items_yet h = no_items h [] (λ o w. not_Contains-nil w.made.op w.made.contained)
 
 pub makes_none : (a : Op) (p : ObjectId) (v : Value) (aim : List OpId) → a.change ≡ Set p v aim
     → (o : ObjectId) → ¬ (IsMade (a ∷ []) o)
-makes_none a p v aim e o w = elim (Contains-cons_cases a [] w.made.maker w.made.contained) [
+makes_none a p v aim e o w = elim (Contains-cons_cases a [] w.made.op w.made.contained) [
   | inl same ↦
       let none : None ≡ Some w.kind = sym (ap (λ (c : Change). made_kind c) (ap (λ (b : Op). b.change)
-      same ∙ e)) ∙ w.made.kind in absurd cc
-  | inr i ↦ not_Contains-nil w.made.maker i
+      same ∙ e)) ∙ w.made.such in absurd cc
+  | inr i ↦ not_Contains-nil w.made.op i
 ]
 
 -- the visible versions of the object that an operation made

@@ -15,7 +15,8 @@ use Rattle.gf_ops.specs.Attribute.{Kind, changed_object, made_kind, object_of}
 use Rattle.gf_ops.specs.Conflict.{Conflict}
 use Rattle.gf_ops.specs.SettledValue.{IsSettled}
 use Rattle.gf_ops.specs.ValidHistory.{IsValid}
-use Rattle.gf_ops.specs.Version.{ConflictsWithin, HasOn, IsMember, IsOfKind, IsVersion}
+use Rattle.gf_ops.specs.Version.{ConflictsWithin, IsMember, IsVersion}
+use Rattle.gf_ops.specs.HasOperation.{HasOn, IsOfKind}
 use Rattle.gf_ops.proofs.ValidityLemmas.{same_op}
 use Rattle.gf_groups.specs.declared.group.Group.{Group}
 use Rattle.gf_groups.specs.Versions.{IsMade}
@@ -50,9 +51,9 @@ made_on i (Set p v aim) o t e m = absurd cc
 aimed_on : (h : List Op) → IsValid h → (a x : Op) → Contains h a → AimsAt h a x
     → object_of x ≡ object_of a
 aimed_on h valid a x c t =
-    let m = (valid.aimed a c).each x.id t.aimed in
+    let m = ((valid.aimed a c).each x.id t.aimed).on in
     let one = same_op h valid m.op x m.contained t.contained m.id in
-    subst (λ (b : Op). object_of b ≡ object_of a) one m.object
+    subst (λ (b : Op). object_of b ≡ object_of a) one m.such
 
 -- ---- conflicts
 
@@ -78,10 +79,10 @@ module _ (h k : List Op) (valid : IsValid h) (o : ObjectId) (same : HaveSameOn o
 
   pub kind_on : (t : Kind) → IsOfKind h o t → IsOfKind k o t
   kind_on t x = record {
-    maker = x.maker;
-    contained = (same x.maker (made_on x.maker.id x.maker.change o t x.id x.kind)).0 x.contained;
+    op = x.op;
+    contained = (same x.op (made_on x.op.id x.op.change o t x.id x.such)).0 x.contained;
     id = x.id;
-    kind = x.kind;
+    such = x.such;
   }
 
 -- ---- members of a group on the object
@@ -94,9 +95,9 @@ members_on : (h k : List Op) (o : ObjectId) → HaveSameOn o h k → (g : List O
     → AllOn k o g
 members_on h k o same g all i c = let x = all i c in record {
   op = x.op;
-  contained = (same x.op x.object).0 x.contained;
+  contained = (same x.op x.such).0 x.contained;
   id = x.id;
-  object = x.object;
+  such = x.such;
 }
 
 -- a member is on the object
@@ -105,7 +106,7 @@ member_on : (h : List Op) → IsValid h → (o : ObjectId) (g : List OpId) → A
 member_on h valid o g all a m =
     let x = all a.id m.grouped in
     subst (λ (b : Op). object_of b ≡ o) (same_op h valid x.op a x.contained m.contained x.id)
-    x.object
+    x.such
 
 pub member_too : (h k : List Op) → IsValid h → (o : ObjectId) → HaveSameOn o h k → (g : List OpId)
     → AllOn h o g → (a : Op) → IsMember h g a → IsMember k g a
@@ -139,9 +140,9 @@ module _ (h k : List Op) (valid : IsValid h) (too : IsValid k) (o : ObjectId)
         rising = x.rising;
         created = record {
           op = x.created.op;
-          contained = (same x.created.op x.created.object).0 x.created.contained;
+          contained = (same x.created.op x.created.such).0 x.created.contained;
           id = x.created.id;
-          object = x.created.object;
+          such = x.created.such;
         };
         makes = x.makes;
         members = all;

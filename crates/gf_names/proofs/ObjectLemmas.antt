@@ -28,14 +28,14 @@ made_told h made ids e r o = (
       let kind = kind_of_some (made_kind w.0.change) k.1 in
       record {
         kind = kind.0;
-        made = record { maker = w.0; contained = k.0; id = sym w.2; kind = kind.1 };
+        made = record { op = w.0; contained = k.0; id = sym w.2; such = kind.1 };
       },
   λ m.
-      let made_it = (Contains-filter makes h m.made.maker).1
-      (m.made.contained, ap is_some m.made.kind) in
+      let made_it = (Contains-filter makes h m.made.op).1
+      (m.made.contained, ap is_some m.made.such) in
       (r.exactly o.0).1 (subst (λ is. Contains is o.0) (sym e)
       (subst (Contains (map (λ (a : Op). a.id) (filter makes h))) m.made.id
-      (Contains-map (λ (a : Op). a.id) (filter makes h) m.made.maker made_it))),
+      (Contains-map (λ (a : Op). a.id) (filter makes h) m.made.op made_it))),
 )
   where
     makes : Op → Bool

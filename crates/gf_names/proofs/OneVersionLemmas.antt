@@ -78,7 +78,7 @@ module _ (h : List Op) (valid : IsValid h) where
       | inl d ↦ d
       | inr out ↦
           let on = second.members i c in
-          let w = first.largest on.op on.contained on.object (λ d. out (subst (Contains g) on.id d))
+          let w = first.largest on.op on.contained on.such (λ d. out (subst (Contains g) on.id d))
           in
           absurd (compatible w.member on.op w.is_member
           (record { contained = on.contained; grouped = subst (Contains k) (sym on.id) c })
@@ -90,7 +90,7 @@ module _ (h : List Op) (valid : IsValid h) where
       | inl d ↦ d
       | inr out ↦
           let on = first.members i c in
-          let w = second.largest on.op on.contained on.object
+          let w = second.largest on.op on.contained on.such
           (λ d. out (subst (Contains k) on.id d)) in
           absurd (compatible on.op w.member
           (record { contained = on.contained; grouped = subst (Contains g) (sym on.id) c })

@@ -233,6 +233,11 @@ module _ (h : List Op) (valid : IsValid h) (m : Op) (there : Contains h m) (i : 
 abbrev pub AllBefore : (OpId → Type 0) → List OpId → ℕ → Type 0
 AllBefore P ids n = (k : ℕ) (d : OpId) → k < n → k < length ids → P (slice_index_or ids k d)
 
+-- what holds of all ids before the last holds of each
+pub all_before_all : (P : OpId → Type 0) (ids : List OpId) (n : ℕ) → AllBefore P ids n
+    → length ids ≤ n → (i : OpId) → Contains ids i → P i
+all_before_all P ids n f e i (k, l, at) = subst P at (f k i (omega arith) l)
+
 pub all_before_more : (P : OpId → Type 0) (ids : List OpId) (n : ℕ) (e : OpId) → n < length ids
     → AllBefore P ids n → P (slice_index_or ids n e) → AllBefore P ids (n + 1)
 all_before_more P ids n e l f p k d m b = elim (cases_lt k n) [
@@ -272,14 +277,11 @@ pub fits_told : (h : List Op) → IsValid h → (m : Op) → Contains h m → (i
     → (a : Op) → FitsAim a m ↔ MayAimAt h a i
 fits_told h valid m there i id a = (
   λ f. record {
-    op = m;
-    contained = there;
-    id = id;
-    object = f.object;
+    on = record { op = m; contained = there; id = id; such = f.object };
     before = f.before;
     within = f.within;
   },
   λ t.
-      let same = same_op h valid t.op m t.contained there (t.id ∙ sym id) in
-      subst (FitsAim a) same (record { object = t.object; before = t.before; within = t.within }),
+      let same = same_op h valid t.on.op m t.on.contained there (t.on.id ∙ sym id) in
+      subst (FitsAim a) same (record { object = t.on.such; before = t.before; within = t.within }),
 )

@@ -11,7 +11,7 @@ use Rattle.gf_ops.specs.ValidHistory.{Counts, IsValid}
 use Rattle.gf_ops.specs.Version.{IsVersion, IsMember}
 use Rattle.gf_ops.proofs.ConflictLemmas.{conflict_direct, version_holds_aims}
 use Rattle.gf_ops.proofs.HistoryLemmas.{site_in_range, seq_in_range}
-use Rattle.gf_ops.proofs.ValidityLemmas.{Holds, same_op}
+use Rattle.gf_ops.proofs.ValidityLemmas.{Holds, has_beyond, same_op}
 
 -- in a part of a history that has all that a knows, the aim of a is one
 pub aimed_within : (h part : List Op) → IsValid h → ((x : Op) → Contains part x → Contains h x)
@@ -19,19 +19,22 @@ pub aimed_within : (h part : List Op) → IsValid h → ((x : Op) → Contains p
 aimed_within h part valid inside a known t = record {
   each = λ i c.
       let m = t.each i c in
-      let range = valid.in_range m.op m.contained in
-      let w = known m.op.id (record {
-        site = site_in_range m.op range;
-        first = (seq_in_range m.op range).0;
+      let on = m.on in
+      let range = valid.in_range on.op on.contained in
+      let w = known on.op.id (record {
+        site = site_in_range on.op range;
+        first = (seq_in_range on.op range).0;
         last = m.before;
       }) in
-      let same : w.op ≡ m.op = same_op h valid w.op m.op (inside w.op w.contained) m.contained w.id
-      in
+      let same : w.op ≡ on.op = same_op h valid w.op on.op (inside w.op w.contained) on.contained
+      w.id in
       record {
-        op = m.op;
-        contained = subst (Contains part) same w.contained;
-        id = m.id;
-        object = m.object;
+        on = record {
+          op = on.op;
+          contained = subst (Contains part) same w.contained;
+          id = on.id;
+          such = on.such;
+        };
         before = m.before;
         within = m.within;
       };
@@ -54,10 +57,12 @@ version_aimed h valid o g v a aim object knows = record {
         grouped = subst (Contains g) (sym on.id) held;
       } in
       record {
-        op = on.op;
-        contained = on.contained;
-        id = on.id;
-        object = on.object ∙ sym object;
+        on = record {
+          op = on.op;
+          contained = on.contained;
+          id = on.id;
+          such = on.such ∙ sym object;
+        };
         before = knows on.op on.contained;
         within = λ j k. subst (λ is. Contains is j) (sym aim)
             (version_holds_aims h valid o g v on.op member j k);
@@ -76,10 +81,7 @@ pub aimed_beyond : (h part : List Op) → ((x y : Op) → Contains h x → Conta
     → x ≡ y) → ((x : Op) → Contains part x → Contains h x) → (a : Op) → IsAimed part a → IsAimed h a
 aimed_beyond h part one inside a t = record {
   each = λ i c. let m = t.each i c in record {
-    op = m.op;
-    contained = inside m.op m.contained;
-    id = m.id;
-    object = m.object;
+    on = has_beyond part h inside m.on;
     before = m.before;
     within = m.within;
   };
@@ -88,6 +90,6 @@ aimed_beyond h part one inside a t = record {
   where
     lowered : (x : Op) → AimsAt h a x → AimsAt part a x
     lowered x m =
-        let k = t.each x.id m.aimed in
+        let k = (t.each x.id m.aimed).on in
         let same : k.op ≡ x = one k.op x (inside k.op k.contained) m.contained k.id in
         record { contained = subst (Contains part) same k.contained; aimed = m.aimed }

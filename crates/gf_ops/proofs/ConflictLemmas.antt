@@ -74,7 +74,7 @@ module _ (h : List Op) (valid : IsValid h) where
   aimed_before : (a x : Op) → Contains h a → AimsAt h a x → Precedes x a
   aimed_before a x i m =
       let t = (valid.aimed a i).each x.id m.aimed in
-      subst (λ y. Precedes y a) (same_op h valid t.op x t.contained m.contained t.id) t.before
+      subst (λ y. Precedes y a) (same_op h valid t.on.op x t.on.contained m.contained t.on.id) t.before
 
   -- and brings no more
   pub brings_more : (a x y : Op) → Contains h a → AimsAt h a x → Brings h x y → AimsAt h a y
@@ -82,7 +82,7 @@ module _ (h : List Op) (valid : IsValid h) where
     | inl e ↦ subst (AimsAt h a) (sym e) m
     | inr n ↦
         let t = (valid.aimed a i).each x.id m.aimed in
-        let same = same_op h valid t.op x t.contained m.contained t.id in
+        let same = same_op h valid t.on.op x t.on.contained m.contained t.on.id in
         record {
           contained = n.contained;
           aimed = subst (λ (z : Op). (j : OpId) → Contains (aim_of z) j → Contains (aim_of a) j)
@@ -147,18 +147,18 @@ module _ (h : List Op) (valid : IsValid h) where
   pub version_holds_aims : (o : ObjectId) (g : List OpId) → IsVersion h o g → (a : Op)
       → IsMember h g a → (i : OpId) → Contains (aim_of a) i → Contains g i
   version_holds_aims o g v a m i c =
-      let t = (valid.aimed a m.contained).each i c in
+      let t = ((valid.aimed a m.contained).each i c).on in
       let aims : AimsAt h a t.op = record {
         contained = t.contained;
         aimed = subst (Contains (aim_of a)) (sym t.id) c;
       } in
       let on = v.members a.id m.grouped in
       let own : object_of a ≡ o = ap object_of (same_op h valid a on.op m.contained on.contained
-      (sym on.id)) ∙ on.object in
+      (sym on.id)) ∙ on.such in
       elim (held_cases g t.op.id) [
         | inl held ↦ subst (Contains g) t.id held
         | inr lost ↦
-            let w = v.largest t.op t.contained (t.object ∙ own) lost in
+            let w = v.largest t.op t.contained (t.such ∙ own) lost in
             absurd (v.compatible a w.member m w.is_member
             (conflict_carried a t.op w.member m.contained aims w.conflict))
       ]

@@ -101,7 +101,7 @@ pub has_counted : (h : List Op) (rows : List (List ℕ)) (counts : Clock) → Is
     → (i : OpId) → IsSite i.site → 1 ≤ i.seq → i.seq ≤ count_of h i.site → Holds h i
 has_counted h rows counts t i site first last =
     let p = t.placed i site first last in
-    record { op = p.op; contained = (position rows i, p.within, p.there); id = p.id }
+    record { op = p.op; contained = (position rows i, p.within, p.there); id = p.id; such = tt }
 
 -- no operation has an id that is not counted
 pub not_counted : (h : List Op) (rows : List (List ℕ)) (counts : Clock) (i : OpId)
@@ -121,8 +121,10 @@ not_counted h rows counts i t out op c e =
 one_kind : (h : List Op) → IsValid h → (a : Op) (o : ObjectId) (k l : Kind) → Knows h a o k
     → Knows h a o l → k ≡ l
 one_kind h valid a o k l x y =
-    let same = same_op h valid x.maker y.maker x.contained y.contained (x.id ∙ sym y.id) in
-    let e : Some k ≡ Some l = sym x.kind ∙ (ap (λ (b : Op). made_kind b.change) same ∙ y.kind) in cc
+    let p = x.made in
+    let q = y.made in
+    let same = same_op h valid p.op q.op p.contained q.contained (p.id ∙ sym q.id) in
+    let e : Some k ≡ Some l = sym p.such ∙ (ap (λ (b : Op). made_kind b.change) same ∙ q.such) in cc
 
 pub not_suited : (h : List Op) → IsValid h → (a : Op) (o : ObjectId) (k : Kind) (v : Value)
     → Knows h a o k → suits k v ≡ false → ¬ (KnowsSuited h a o v)
@@ -134,15 +136,16 @@ pub not_made : (h : List Op) → IsValid h → (a maker : Op) (o p : ObjectId) (
     (aim : List OpId) → Contains h maker → maker.id ≡ o.0 → maker.change ≡ Set p v aim
     → ¬ (KnowsSome h a o)
 not_made h valid a maker o p v aim c id e s =
-    let x = s.known in
-    let same = same_op h valid x.maker maker x.contained c (x.id ∙ sym id) in
-    let none : made_kind x.maker.change ≡ None = ap (λ (b : Op). made_kind b.change) same
+    let x = s.known.made in
+    let same = same_op h valid x.op maker x.contained c (x.id ∙ sym id) in
+    let none : made_kind x.op.change ≡ None = ap (λ (b : Op). made_kind b.change) same
     ∙ ap made_kind e in
-    let some = x.kind in cc
+    let some = x.such in cc
 
 pub not_there : (h : List Op) (a : Op) (o : ObjectId) → ((b : Op) → Contains h b → b.id ≢ o.0)
     → ¬ (KnowsSome h a o)
-not_there h a o none s = none s.known.maker s.known.contained s.known.id
+not_there h a o none s =
+    none s.known.made.op s.known.made.contained s.known.made.id
 
 pub none_told : {X : Type 0} (A : Type 0) (r : Option X) → A → IfNone r A
 none_told A None a = a

@@ -90,7 +90,7 @@ module _ (h : List Op) (valid : IsValid h) where
       let suited : IsSuited h y (Set o v aim) = subst (IsSuited h y) f (valid.suited y j) in
       let known = suited.known in
       let id : o.0 ≡ x.id = ap (λ (p : ObjectId). p.0) (sym other ∙ (sym d.one_object ∙ own)) in
-      let same = same_op h valid known.maker x known.contained i (known.id ∙ id) in
+      let same = same_op h valid known.made.op x known.made.contained i (known.made.id ∙ id) in
       d.concurrent.not_before (subst (λ z. Precedes z y) same known.before)
 
   pub both_set : (x y : Op) → Contains h x → Contains h y → (b c : Change) → x.change ≡ b

@@ -259,5 +259,5 @@ pub aimed_on_one : (h : List Op) → IsValid h → (a : Op) → MayAim h a (aim_
 aimed_on_one h valid a may x y i j c d = on x i c ∙ sym (on y j d)
   where
     on : (z : Op) → Contains h z → Contains (aim_of a) z.id → object_of z ≡ object_of a
-    on z k e = let t = may z.id e in ap object_of (same_op h valid z t.op k t.contained (sym t.id))
-        ∙ t.object
+    on z k e = let t = (may z.id e).on in
+        ap object_of (same_op h valid z t.op k t.contained (sym t.id)) ∙ t.such

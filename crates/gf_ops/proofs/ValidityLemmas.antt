@@ -1,7 +1,7 @@
 -- Valid histories: what they keep, and that they stay valid with one more operation behind them.
 use Rattle.std.proofs.Common.{◌≡◌, ◌≢◌, ◌+◌, ◌≤◌, List, [], ◌∷◌, ◌++◌, get_or, subst, sym, ap, ◌∙◌}
 use Rattle.std.proofs.Common.{arith, inl, inr}
-use Rattle.std.specs.Prelude.{Contains}
+use Rattle.std.specs.Prelude.{Contains, ⊤}
 use Rattle.std.proofs.lemmas.Bool.{cases_eq, cases_order}
 use Rattle.std.proofs.lemmas.List.{get_or_default}
 use Rattle.std.proofs.lemmas.List.Elements.{Contains-get_or, Contains-push_cases}
@@ -13,6 +13,7 @@ use Rattle.gf_ops.specs.declared.op.Clock.{Clock}
 use Rattle.gf_ops.specs.declared.change.Change.{Change}
 use Rattle.gf_ops.specs.declared.change.Change.TheVariants.{Create, Set}
 use Rattle.gf_ops.specs.Aims.{AimsAt, IsAimed}
+use Rattle.gf_ops.specs.HasOperation.{HasSuch}
 use Rattle.gf_ops.specs.KnownObject.{IsSuited}
 use Rattle.gf_ops.specs.Limits.{IsInRange}
 use Rattle.gf_ops.specs.OperationOrder.{IsSite, Precedes, entry, count_of}
@@ -20,36 +21,29 @@ use Rattle.gf_ops.specs.ValidHistory.{IsWithin, Counts, Has, IsValid}
 use Rattle.gf_ops.specs.Accepted.{IsNext}
 
 -- h has an operation under id i
-pub record Holds (h : List Op) (i : OpId) : Type 0 where
-  pub op : Op
-  pub contained : Contains h op
-  pub id : op.id ≡ i
+abbrev pub Holds : List Op → OpId → Type 0
+Holds h i = HasSuch h i (λ op. ⊤)
+
+-- what a part of h has, h has
+abbrev pub has_beyond : {i : OpId} {P : Op → Type 0} (part h : List Op)
+    → ((x : Op) → Contains part x → Contains h x) → HasSuch part i P → HasSuch h i P
+has_beyond part h inside t =
+    record { op = t.op; contained = inside t.op t.contained; id = t.id; such = t.such }
 
 -- what h has, it still has with a behind it
-has_before : (h : List Op) (a : Op) (c : Clock) (i : OpId) → Has h c i → Has (h ++ a ∷ []) c i
-has_before h a c i t = record {
-  op = t.op;
-  contained = Contains-append_left h (a ∷ []) t.op t.contained;
-  id = t.id;
-  past = t.past;
-}
+abbrev has_before : {i : OpId} {P : Op → Type 0} (h : List Op) (a : Op) → HasSuch h i P
+    → HasSuch (h ++ a ∷ []) i P
+has_before h a = has_beyond h (h ++ a ∷ []) (Contains-append_left h (a ∷ []))
 
--- whom a knew and what suits it, it still knows and suits with another operation behind h
-suited_before : (h : List Op) (a b : Op) (c : Change) → IsSuited h b c → IsSuited (h ++ a ∷ []) b c
-suited_before h a b (Create start) s = tt
-suited_before h a b (Set o v aim) s =
-    let k = s.known in
-    record {
-      kind = s.kind;
-      known = record {
-        maker = k.maker;
-        contained = Contains-append_left h (a ∷ []) k.maker k.contained;
-        id = k.id;
-        kind = k.kind;
-        before = k.before;
-      };
-      suited = s.suited;
-    }
+-- what suits by a part of h suits by h
+pub suited_beyond : (part h : List Op) → ((x : Op) → Contains part x → Contains h x)
+    → (a : Op) (c : Change) → IsSuited part a c → IsSuited h a c
+suited_beyond part h inside a (Create start) s = tt
+suited_beyond part h inside a (Set o v aim) s = record {
+  kind = s.kind;
+  known = record { made = has_beyond part h inside s.known.made; before = s.known.before };
+  suited = s.suited;
+}
 
 -- the next operation knows no operation that h lacks
 counted : (h : List Op) (a : Op) (i : OpId) → IsNext h a → Counts a.past i
@@ -62,21 +56,14 @@ aimed_before : (h : List Op) (a b : Op) → ((x : Op) → Contains h x → x.id 
 aimed_before h a b fresh t = record {
   each = λ i c.
       let m = t.each i c in
-      record {
-        op = m.op;
-        contained = Contains-append_left h (a ∷ []) m.op m.contained;
-        id = m.id;
-        object = m.object;
-        before = m.before;
-        within = m.within;
-      };
+      record { on = has_before h a m.on; before = m.before; within = m.within };
   compatible = λ x y m n. t.compatible x y (was x m) (was y n);
 }
   where
     was : (x : Op) → AimsAt (h ++ a ∷ []) b x → AimsAt h b x
     was x m = elim (Contains-push_cases h a x m.contained) [
       | inl k ↦ record { contained = k; aimed = m.aimed }
-      | inr e ↦ let w = t.each x.id m.aimed in
+      | inr e ↦ let w = (t.each x.id m.aimed).on in
           absurd (fresh w.op w.contained (w.id ∙ ap (λ (z : Op). z.id) (sym e)))
     ]
 
@@ -87,7 +74,7 @@ next_closed h a i next c t = record {
   op = t.op;
   contained = t.contained;
   id = t.id;
-  past = next.closed t.op t.contained (subst (λ (j : OpId). j.seq ≤ entry a.past j.site) (sym t.id)
+  such = next.closed t.op t.contained (subst (λ (j : OpId). j.seq ≤ entry a.past j.site) (sym t.id)
       c.last);
 }
 
@@ -110,22 +97,24 @@ IsValid-push h a valid in_range next suited aimed fresh known = record {
     | inr e ↦ subst (λ (x : Op). entry x.past x.id.site + 1 ≡ x.id.seq) e next.numbered.own
   ];
   closed = λ b m i c. elim (Contains-push_cases h a b m) [
-    | inl k ↦ has_before h a b.past i (valid.closed b k i c)
+    | inl k ↦ has_before h a (valid.closed b k i c)
     | inr e ↦
         let d : Counts a.past i = subst (λ (x : Op). Counts x.past i) (sym e) c in
         let t = next_closed h a i next d (known i d.site d.first (counted h a i next d)) in
-        has_before h a b.past i (subst (λ (x : Op). Has h x.past i) e t)
+        has_before h a (subst (λ (x : Op). Has h x.past i) e t)
   ];
   suited = λ b m. elim (Contains-push_cases h a b m) [
-    | inl k ↦ suited_before h a b b.change (valid.suited b k)
-    | inr e ↦ subst (λ (x : Op). IsSuited (h ++ a ∷ []) x x.change) e
-        (suited_before h a a a.change suited)
+    | inl k ↦ suited_before b (valid.suited b k)
+    | inr e ↦ subst (λ (x : Op). IsSuited (h ++ a ∷ []) x x.change) e (suited_before a suited)
   ];
   aimed = λ b m. elim (Contains-push_cases h a b m) [
     | inl k ↦ aimed_before h a b fresh (valid.aimed b k)
     | inr e ↦ subst (IsAimed (h ++ a ∷ [])) e (aimed_before h a a fresh aimed)
   ];
 }
+  where
+    suited_before : (b : Op) → IsSuited h b b.change → IsSuited (h ++ a ∷ []) b b.change
+    suited_before b = suited_beyond h (h ++ a ∷ []) (Contains-append_left h (a ∷ [])) b b.change
 
 -- an operation of a valid history is the only one under its id
 pub same_op : (h : List Op) → IsValid h → (a b : Op) → Contains h a → Contains h b → a.id ≡ b.id
@@ -153,7 +142,7 @@ pasts_grow h valid a b x y site is first last = elim (cases_eq a.id.seq b.id.seq
       let known : a.id.seq ≤ entry b.past a.id.site = rw site (omega arith) in
       let has = valid.closed b y a.id (record { site = is; first = first; last = known }) in
       subst (λ (c : Op). IsWithin c.past b.past) (same_op h valid has.op a has.contained x has.id)
-      has.past
+      has.such
 ]
 
 -- no operation comes before itself
@@ -167,7 +156,7 @@ pub precedes_transitive : (h : List Op) → IsValid h → (a b c : Op) → Conta
 precedes_transitive h valid a b c y z site other first before after =
     let has = valid.closed c z b.id (record { site = other; first = first; last = after }) in
     let grown = subst (λ (d : Op). IsWithin d.past c.past)
-    (same_op h valid has.op b has.contained y has.id) has.past a.id.site site in
+    (same_op h valid has.op b has.contained y has.id) has.such a.id.site site in
     omega arith
 
 -- where the last operation of a site that a knows knew no more than a, no operation of that site

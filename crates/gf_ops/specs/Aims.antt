@@ -5,6 +5,7 @@ use Rattle.gf_ops.specs.declared.op.Op.{Op}
 use Rattle.gf_ops.specs.declared.op.OpId.{OpId}
 use Rattle.gf_ops.specs.Attribute.{aim_of, object_of}
 use Rattle.gf_ops.specs.DirectConflict.{DirectConflict}
+use Rattle.gf_ops.specs.HasOperation.{HasOn}
 use Rattle.gf_ops.specs.OperationOrder.{Precedes}
 
 -- a aims at x, which h has
@@ -18,12 +19,9 @@ Brings h a x = (x ≡ a) ⊎ AimsAt h a x
 
 -- h has an operation under i before a, on its object, and a aims at all that this aims at
 pub record MayAimAt (h : List Op) (a : Op) (i : OpId) : Type 0 where
-  pub op : Op
-  pub contained : Contains h op
-  pub id : op.id ≡ i
-  pub object : object_of op ≡ object_of a
-  pub before : Precedes op a
-  pub within : (j : OpId) → Contains (aim_of op) j → Contains (aim_of a) j
+  pub on : HasOn h (object_of a) i
+  pub before : Precedes on.op a
+  pub within : (j : OpId) → Contains (aim_of on.op) j → Contains (aim_of a) j
 
 -- the aim of a has earlier operations of its object, is closed under aims, and no two of them
 -- conflict

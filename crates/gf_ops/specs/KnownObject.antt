@@ -1,21 +1,19 @@
 -- Whether an operation knows the object that it changes, and whether its new value suits that
 -- object (this project's choice).
-use Rattle.std.specs.Prelude.{◌≡◌, List, Contains, Some, IsTrue, ⊤}
+use Rattle.std.specs.Prelude.{List, IsTrue, ⊤}
 use Rattle.gf_ops.specs.declared.op.Op.{Op}
 use Rattle.gf_ops.specs.declared.op.ObjectId.{ObjectId}
 use Rattle.gf_ops.specs.declared.change.Change.{Change}
 use Rattle.gf_ops.specs.declared.change.Change.TheVariants.{Create, Set}
 use Rattle.gf_ops.specs.declared.change.Value.{Value}
-use Rattle.gf_ops.specs.Attribute.{Kind, made_kind, suits}
+use Rattle.gf_ops.specs.Attribute.{Kind, suits}
+use Rattle.gf_ops.specs.HasOperation.{IsOfKind}
 use Rattle.gf_ops.specs.OperationOrder.{Precedes}
 
 -- the operation of h that made the object o, as one of kind k, comes before a
 pub record Knows (h : List Op) (a : Op) (o : ObjectId) (k : Kind) : Type 0 where
-  pub maker : Op
-  pub contained : Contains h maker
-  pub id : maker.id ≡ o.0
-  pub kind : made_kind maker.change ≡ Some k
-  pub before : Precedes maker a
+  pub made : IsOfKind h o k
+  pub before : Precedes made.op a
 
 -- a knows the object o, of some kind
 pub record KnowsSome (h : List Op) (a : Op) (o : ObjectId) : Type 0 where

@@ -3,6 +3,7 @@ pub mod SameIds
 pub mod Limits
 pub mod OperationOrder
 pub mod Attribute
+pub mod HasOperation
 pub mod KnownObject
 pub mod ValidHistory
 pub mod DirectConflict

@@ -6,6 +6,7 @@ use Rattle.gf_ops.specs.declared.op.Op.{Op}
 use Rattle.gf_ops.specs.declared.op.OpId.{OpId}
 use Rattle.gf_ops.specs.declared.op.Clock.{Clock}
 use Rattle.gf_ops.specs.Aims.{IsAimed}
+use Rattle.gf_ops.specs.HasOperation.{HasSuch}
 use Rattle.gf_ops.specs.Limits.{IsInRange}
 use Rattle.gf_ops.specs.KnownObject.{IsSuited}
 use Rattle.gf_ops.specs.OperationOrder.{IsSite, entry}
@@ -21,11 +22,8 @@ pub record Counts (c : Clock) (i : OpId) : Type 0 where
   pub last : i.seq ≤ entry c i.site
 
 -- h has an operation under id i, the past of which is within clock c
-pub record Has (h : List Op) (c : Clock) (i : OpId) : Type 0 where
-  pub op : Op
-  pub contained : Contains h op
-  pub id : op.id ≡ i
-  pub past : IsWithin op.past c
+abbrev pub Has : List Op → Clock → OpId → Type 0
+Has h c i = HasSuch h i (λ op. IsWithin op.past c)
 
 -- the operations of h keep all limits, each under its own id. Each knows all of its site before it.
 -- All that it knows is there, and knew no more. It makes an object, or gives one that it knows a

@@ -1,26 +1,13 @@
 -- The versions of an object (maximal compatible groups, Sun and Chen, ACM TOCHI 9(1), 2002).
-use Rattle.std.specs.Prelude.{◌≡◌, List, Contains, Some, IsSome}
+use Rattle.std.specs.Prelude.{◌≡◌, List, Contains, IsSome}
 use Rattle.std.specs.List.Sorted.{IsStrictlySortedBy}
 use Rattle.gf_ops.specs.declared.op.Op.{Op}
 use Rattle.gf_ops.specs.declared.op.OpId.{OpId}
 use Rattle.gf_ops.specs.declared.op.ObjectId.{ObjectId}
-use Rattle.gf_ops.specs.Attribute.{Kind, made_kind, object_of}
+use Rattle.gf_ops.specs.Attribute.{made_kind, object_of}
 use Rattle.gf_ops.specs.Conflict.{Conflict}
+use Rattle.gf_ops.specs.HasOperation.{HasOn}
 use Rattle.gf_ops.specs.OperationOrder.{id_cmp}
-
--- h has an operation under id i, on the object o
-pub record HasOn (h : List Op) (o : ObjectId) (i : OpId) : Type 0 where
-  pub op : Op
-  pub contained : Contains h op
-  pub id : op.id ≡ i
-  pub object : object_of op ≡ o
-
--- h has an operation that made the object o, as one of kind k
-pub record IsOfKind (h : List Op) (o : ObjectId) (k : Kind) : Type 0 where
-  pub maker : Op
-  pub contained : Contains h maker
-  pub id : maker.id ≡ o.0
-  pub kind : made_kind maker.change ≡ Some k
 
 -- a is an operation of h that the group g has
 pub record IsMember (h : List Op) (g : List OpId) (a : Op) : Type 0 where

@@ -16,7 +16,7 @@ use Rattle.gf_ops.specs.Accepted.{IsAccepted, AreAccepted, none, next}
 use Rattle.gf_ops.specs.ValidHistory.{IsValid}
 use Rattle.gf_ops.proofs.AimedLemmas.{aimed_beyond}
 use Rattle.gf_ops.proofs.HistoryLemmas.{site_in_range, seq_in_range}
-use Rattle.gf_ops.proofs.ValidityLemmas.{same_op}
+use Rattle.gf_ops.proofs.ValidityLemmas.{same_op, suited_beyond}
 use Rattle.gf_base.proofs.PositionLemmas.{position_in}
 use Rattle.gf_causal.specs.HeldOperations.{Adds}
 use Rattle.gf_causal.proofs.CourseLemmas.{has_counted, number_counted, count_within, same_id}
@@ -144,22 +144,6 @@ module _ (messages : List Op) (valid : IsValid messages) (run : AreAccepted mess
       subst (Contains x.ops) (same_op messages valid t.op b (w.has t.op t.contained) m
       (same_id t.op b t.site t.seq)) t.contained
 
-  suited_more : (c : Change) → IsSuited x.ops a c → IsSuited messages a c
-  suited_more (Create new) u = tt
-  suited_more (Set o v aim) u =
-      let k = u.known in
-      record {
-        kind = u.kind;
-        known = record {
-          maker = k.maker;
-          contained = w.has k.maker k.contained;
-          id = k.id;
-          kind = k.kind;
-          before = k.before;
-        };
-        suited = u.suited;
-      }
-
   accepted_more : IsAccepted messages a
   accepted_more = record {
     next = record {
@@ -175,7 +159,7 @@ module _ (messages : List Op) (valid : IsValid messages) (run : AreAccepted mess
           let m = count_within (course_ready w.course) (all_ready run) w.has t in omega arith;
       closed = λ b m before. accepted.next.closed b (knows b m before) before;
     };
-    suited = suited_more a.change accepted.suited;
+    suited = suited_beyond x.ops messages w.has a a.change accepted.suited;
     aimed = aimed_beyond messages x.ops (λ b d m n e. same_op messages valid b d m n e) w.has a
         accepted.aimed;
   }

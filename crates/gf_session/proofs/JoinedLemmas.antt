@@ -15,7 +15,7 @@ use Rattle.gf_ops.specs.ValidHistory.{IsValid}
 use Rattle.gf_ops.proofs.AimedLemmas.{aimed_beyond}
 use Rattle.gf_base.proofs.ListLemmas.{not_Contains-nil, Contains-cons_cases, Contains-cons_head}
 use Rattle.gf_base.proofs.ListLemmas.{Contains-cons_tail}
-use Rattle.gf_ops.proofs.ValidityLemmas.{same_op}
+use Rattle.gf_ops.proofs.ValidityLemmas.{same_op, has_beyond, suited_beyond}
 use Rattle.gf_causal.specs.DeliveredPart.{AreOneById, HasLastDelivery}
 use Rattle.gf_causal.proofs.FinishLemmas.{last_delivery}
 use Rattle.gf_causal.proofs.CourseLemmas.{delivered_part}
@@ -147,23 +147,6 @@ module _ (ends : List WorkerEnd) (joined : AreJoined ends) where
   from_some : (a : Op) → Contains whole.added a → At ends a
   from_some a c = at_some ends a (whole.is_last.delivery.from_offered a c)
 
-  suited_more : (e : WorkerEnd) → Contains ends e → (a : Op) (c : Change) → IsSuited e.site.ops a c
-      → IsSuited whole.added a c
-  suited_more e c a (Create start) s = tt
-  suited_more e c a (Set o v aim) s =
-      let k = s.known in
-      record {
-        kind = s.kind;
-        known = record {
-          maker = k.maker;
-          contained = within_whole e c k.maker k.contained;
-          id = k.id;
-          kind = k.kind;
-          before = k.before;
-        };
-        suited = s.suited;
-      }
-
   pub whole_valid : IsValid whole.added
   whole_valid = record {
     in_range = λ a c. let t = from_some a c in (joined.complete t.end t.contained).valid.in_range a
@@ -172,14 +155,10 @@ module _ (ends : List WorkerEnd) (joined : AreJoined ends) where
     own = λ a c. let t = from_some a c in (joined.complete t.end t.contained).valid.own a t.has;
     closed = λ a c i n.
         let t = from_some a c in
-        let h = (joined.complete t.end t.contained).valid.closed a t.has i n in
-        record {
-          op = h.op;
-          contained = within_whole t.end t.contained h.op h.contained;
-          id = h.id;
-          past = h.past;
-        };
-    suited = λ a c. let t = from_some a c in suited_more t.end t.contained a a.change
+        has_beyond t.end.site.ops whole.added (within_whole t.end t.contained)
+            ((joined.complete t.end t.contained).valid.closed a t.has i n);
+    suited = λ a c. let t = from_some a c in
+        suited_beyond t.end.site.ops whole.added (within_whole t.end t.contained) a a.change
         ((joined.complete t.end t.contained).valid.suited a t.has);
     aimed = λ a c.
         let t = from_some a c in

@@ -43,6 +43,7 @@ valid_push h run valid a in_range accepted =
       op = t.op;
       contained = t.contained;
       id = λ j. record { site = t.site j; seq = t.seq j };
+      such = tt;
     })
 
 pub course_valid : {s : ℕ} {h : List Op} → IsCourse s h → IsValid h

@@ -22,7 +22,8 @@ use Rattle.gf_ops.specs.DirectConflict.{DirectConflict}
 use Rattle.gf_ops.specs.KnownObject.{IsSuited}
 use Rattle.gf_ops.specs.OperationOrder.{Precedes}
 use Rattle.gf_ops.specs.ValidHistory.{IsValid}
-use Rattle.gf_ops.specs.Version.{IsMember, IsOfKind, IsVersion}
+use Rattle.gf_ops.specs.Version.{IsMember, IsVersion}
+use Rattle.gf_ops.specs.HasOperation.{IsOfKind}
 use Rattle.gf_versions.specs.Settling.{has, HasAttribute}
 use Rattle.gf_base.proofs.ListLemmas.{Contains-cons_cases, Contains-cons_head, Contains-cons_tail}
 use Rattle.gf_base.proofs.ListLemmas.{not_Contains-nil}
@@ -99,8 +100,9 @@ module _ (h : List Op) (valid : IsValid h) (o : ObjectId) where
   maker_or_after maker a x named y (Create start) c e = inl (ap (λ (p : ObjectId). p.0) e)
   maker_or_after maker a x named y (Set p v aim) c e =
       let known = (subst (IsSuited h a) c (valid.suited a y)).known in
-      let one = same_op h valid known.maker maker known.contained x
-      (known.id ∙ (ap (λ (q : ObjectId). q.0) e ∙ sym named)) in
+      let made = known.made in
+      let one = same_op h valid made.op maker made.contained x
+      (made.id ∙ (ap (λ (q : ObjectId). q.0) e ∙ sym named)) in
       inr (subst (λ (b : Op). Precedes b a) one known.before)
 
   -- a member of a version concerns its object
@@ -109,7 +111,7 @@ module _ (h : List Op) (valid : IsValid h) (o : ObjectId) where
   member_object g version a m =
       let on = version.members a.id m.grouped in
       subst (λ (b : Op). object_of b ≡ o) (same_op h valid on.op a on.contained m.contained on.id)
-      on.object
+      on.such
 
   -- the creation conflicts with no operation on its object, so it is a member of each version
   pub maker_grouped : (g : List OpId) (version : IsVersion h o g) → IsMember h g version.created.op
@@ -117,7 +119,7 @@ module _ (h : List Op) (valid : IsValid h) (o : ObjectId) where
     | inl k ↦ record { contained = version.created.contained; grouped = k }
     | inr n ↦
         let made = version.created in
-        let clash = version.largest made.op made.contained made.object n in
+        let clash = version.largest made.op made.contained made.such n in
         let member = clash.member in
         let first : clash.conflict.first ≡ made.op = elim clash.conflict.brings_first [
           | inl e ↦ e
@@ -133,7 +135,7 @@ module _ (h : List Op) (valid : IsValid h) (o : ObjectId) where
         let direct : DirectConflict made.op second = subst (λ x. DirectConflict x second) first
         clash.conflict.direct in
         absurd (elim (maker_or_after made.op second made.contained made.id there second.change refl
-        (sym direct.one_object ∙ made.object)) [
+        (sym direct.one_object ∙ made.such)) [
           | inl e ↦ direct.concurrent.different (same_op h valid made.op second made.contained there
               (made.id ∙ sym e))
           | inr before ↦ direct.concurrent.not_before before
@@ -143,8 +145,8 @@ module _ (h : List Op) (valid : IsValid h) (o : ObjectId) where
   -- an object has one kind
   pub one_kind : (k l : Kind) → IsOfKind h o k → IsOfKind h o l → k ≡ l
   one_kind k l x y =
-      let same = same_op h valid x.maker y.maker x.contained y.contained (x.id ∙ sym y.id) in
-      let e : Some k ≡ Some l = sym x.kind ∙ (ap (λ (b : Op). made_kind b.change) same ∙ y.kind) in
+      let same = same_op h valid x.op y.op x.contained y.contained (x.id ∙ sym y.id) in
+      let e : Some k ≡ Some l = sym x.such ∙ (ap (λ (b : Op). made_kind b.change) same ∙ y.such) in
       cc
 
   pub has_attribute : (k : Kind) (t : Attr) → IsOfKind h o k → IsTrue (has k t) → HasAttribute h o t
@@ -157,7 +159,7 @@ module _ (h : List Op) (valid : IsValid h) (o : ObjectId) where
       let made = version.created in
       let kind = some_value (made_kind made.op.change) version.makes in (
         kind.0,
-        record { maker = made.op; contained = made.contained; id = made.id; kind = kind.1 },
+        record { op = made.op; contained = made.contained; id = made.id; such = kind.1 },
         kind.1,
       )
 
@@ -174,10 +176,10 @@ module _ (h : List Op) (valid : IsValid h) (o : ObjectId) where
   pub kind_by_form : (a : Op) (s : Start) (f : Form) → Contains h a → a.id ≡ o.0
       → a.change ≡ Create s → s.form ≡ f → IsOfKind h o (kind_of f)
   kind_by_form a s f x named e is = record {
-    maker = a;
+    op = a;
     contained = x;
     id = named;
-    kind = ap made_kind e ∙ ap (λ k. Some (kind_of k)) is;
+    such = ap made_kind e ∙ ap (λ k. Some (kind_of k)) is;
   }
 
   -- the creation gives each attribute of the object a value
@@ -208,20 +210,20 @@ module _ (h : List Op) (valid : IsValid h) (o : ObjectId) where
       → a.change ≡ change → changed_object a.id change ≡ o
       → change_value change attr.Size ≡ Some (Size m n) → m ≡ n
   round_change a m n kind x (Create s) c e gives =
-      let one = same_op h valid kind.maker a kind.contained x
+      let one = same_op h valid kind.op a kind.contained x
       (kind.id ∙ sym (ap (λ (p : ObjectId). p.0) e)) in
       let made : Some (kind_of s.form) ≡ Some Circle = sym (ap made_kind c)
-      ∙ (sym (ap (λ (b : Op). made_kind b.change) one) ∙ kind.kind) in
+      ∙ (sym (ap (λ (b : Op). made_kind b.change) one) ∙ kind.such) in
       form_round s.form m n (cc) gives
   round_change a m n kind x (Set p v aim) c e gives =
       let suited = subst (IsSuited h a) c (valid.suited a x) in
-      let known = suited.known in
+      let made = suited.known.made in
       let same = one_kind suited.kind Circle
       (record {
-        maker = known.maker;
-        contained = known.contained;
-        id = known.id ∙ ap (λ (q : ObjectId). q.0) e;
-        kind = known.kind;
+        op = made.op;
+        contained = made.contained;
+        id = made.id ∙ ap (λ (q : ObjectId). q.0) e;
+        such = made.such;
       }) kind in
       set_round v m n (subst (λ k. IsTrue (suits k v)) same suited.suited) gives
 

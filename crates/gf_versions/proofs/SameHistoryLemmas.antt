@@ -11,7 +11,8 @@ use Rattle.gf_ops.specs.Aims.{Brings}
 use Rattle.gf_ops.specs.Attribute.{Kind}
 use Rattle.gf_ops.specs.Conflict.{Conflict}
 use Rattle.gf_ops.specs.SettledValue.{IsSettled}
-use Rattle.gf_ops.specs.Version.{ConflictsWithin, HasOn, IsMember, IsOfKind, IsVersion}
+use Rattle.gf_ops.specs.Version.{ConflictsWithin, IsMember, IsVersion}
+use Rattle.gf_ops.specs.HasOperation.{HasOn, IsOfKind}
 use Rattle.gf_base.proofs.ListLemmas.{Contains-cons_cases, Contains-cons_head, Contains-cons_tail}
 use Rattle.gf_base.proofs.ListLemmas.{not_Contains-nil}
 use Rattle.gf_versions.specs.declared.key.Version.{Version}
@@ -22,25 +23,16 @@ use Rattle.gf_versions.specs.VersionOf.{IsVersionOf}
 use Rattle.gf_versions.specs.Visible.{IsVisible}
 use Rattle.gf_versions.proofs.KeyLemmas.{above_one_way}
 use Rattle.gf_versions.proofs.TopLemmas.{head_above, tail_falls}
+use Rattle.gf_ops.proofs.ValidityLemmas.{has_beyond}
 
 -- ---- what a history has, one with more operations has too
 
 module _ (h k : List Op) (more : (a : Op) → Contains h a → Contains k a) where
   has_on : (o : ObjectId) (i : OpId) → HasOn h o i → HasOn k o i
-  has_on o i x = record {
-    op = x.op;
-    contained = more x.op x.contained;
-    id = x.id;
-    object = x.object;
-  }
+  has_on o i = has_beyond h k more
 
   of_kind : (o : ObjectId) (t : Kind) → IsOfKind h o t → IsOfKind k o t
-  of_kind o t x = record {
-    maker = x.maker;
-    contained = more x.maker x.contained;
-    id = x.id;
-    kind = x.kind;
-  }
+  of_kind o t = has_beyond h k more
 
   is_member : (g : List OpId) (a : Op) → IsMember h g a → IsMember k g a
   is_member g a x = record { contained = more a x.contained; grouped = x.grouped }

@@ -20,7 +20,8 @@ use Rattle.gf_ops.specs.Attribute.{Kind, Box, Circle, Ellipse, Polygon, change_v
 use Rattle.gf_ops.specs.Attribute.{form_attribute, form_value, kind_of, value_as}
 use Rattle.gf_ops.specs.SettledValue.{IsSettled}
 use Rattle.gf_ops.specs.ValidHistory.{IsValid}
-use Rattle.gf_ops.specs.Version.{IsOfKind, IsVersion}
+use Rattle.gf_ops.specs.Version.{IsVersion}
+use Rattle.gf_ops.specs.HasOperation.{IsOfKind}
 use Rattle.gf_base.proofs.ListLemmas.{Contains-cons_cases, Contains-cons_head, Contains-cons_tail}
 use Rattle.gf_base.proofs.ListLemmas.{Contains-map_from, not_Contains-nil}
 use Rattle.gf_groups.specs.declared.group.Group.{Group}

@@ -10,7 +10,8 @@ use Rattle.gf_ops.specs.Attribute.{Kind, Box, Circle, Ellipse, Polygon, form_att
 use Rattle.gf_ops.specs.Attribute.{value_given, kind_of}
 use Rattle.gf_ops.specs.OperationOrder.{Precedes}
 use Rattle.gf_ops.specs.SettledValue.{IsSettled}
-use Rattle.gf_ops.specs.Version.{IsMember, IsOfKind}
+use Rattle.gf_ops.specs.Version.{IsMember}
+use Rattle.gf_ops.specs.HasOperation.{IsOfKind}
 use Rattle.gf_groups.specs.declared.group.Group.{Group}
 
 -- k is the kind of polygons

@@ -6,7 +6,8 @@ use Rattle.gf_ops.specs.declared.change.Attr.TheVariants.{Place, Colour, Layer, 
 use Rattle.gf_ops.specs.declared.change.Value.TheVariants as value
 use Rattle.gf_ops.specs.Attribute.{form_attribute, form_value, kind_of}
 use Rattle.gf_ops.specs.SettledValue.{IsSettled}
-use Rattle.gf_ops.specs.Version.{IsOfKind, IsVersion}
+use Rattle.gf_ops.specs.Version.{IsVersion}
+use Rattle.gf_ops.specs.HasOperation.{IsOfKind}
 use Rattle.gf_versions.specs.declared.key.Version.{Version}
 
 -- v is a version of an object of h and of its kind, each attribute with its settled value

@@ -37,6 +37,7 @@ use Rattle.gf_versions.specs.declared.placed.Placed.{Placed}
 use Rattle.gf_versions.specs.Ranking.{AreRanked, AreRankedOf, group_of, placed_version}
 use Rattle.gf_versions.proofs.MakerLemmas.{version_kind}
 use Rattle.gf_versions.proofs.RankedLemmas.{some_ranked}
+use Rattle.gf_ops.proofs.ValidityLemmas.{has_beyond}
 
 -- ---- who made an object
 
@@ -44,23 +45,18 @@ made_weaker : (ks ops : List Op) (o : ObjectId) → ((a : Op) → Contains ks a 
     → IsMade ks o → IsMade ops o
 made_weaker ks ops o f w = record {
   kind = w.kind;
-  made = record {
-    maker = w.made.maker;
-    contained = f w.made.maker w.made.contained;
-    id = w.made.id;
-    kind = w.made.kind;
-  };
+  made = has_beyond ks ops f w.made;
 }
 
 made_cases : (ks ops : List Op) (o : ObjectId) → IsMade (ks ++ ops) o → IsMade ks o ⊎ IsMade ops o
-made_cases ks ops o w = elim (Contains-append_cases ks ops w.made.maker w.made.contained) [
+made_cases ks ops o w = elim (Contains-append_cases ks ops w.made.op w.made.contained) [
   | inl i ↦ inl (record {
     kind = w.kind;
-    made = record { maker = w.made.maker; contained = i; id = w.made.id; kind = w.made.kind };
+    made = record { op = w.made.op; contained = i; id = w.made.id; such = w.made.such };
   })
   | inr i ↦ inr (record {
     kind = w.kind;
-    made = record { maker = w.made.maker; contained = i; id = w.made.id; kind = w.made.kind };
+    made = record { op = w.made.op; contained = i; id = w.made.id; such = w.made.such };
   })
 ]
 
@@ -72,17 +68,17 @@ pub makes_one : (a : Op) (start : Start) → a.change ≡ Create start → IsMad
 makes_one a start e = record {
   kind = kind_of start.form;
   made = record {
-    maker = a;
+    op = a;
     contained = Contains-cons_head a [];
     id = refl;
-    kind = ap (λ c. made_kind c) e;
+    such = ap (λ c. made_kind c) e;
   };
 }
 
-one_maker : (a : Op) (o : ObjectId) (w : IsMade (a ∷ []) o) → w.made.maker ≡ a
-one_maker a o w = elim (Contains-cons_cases a [] w.made.maker w.made.contained) [
+one_maker : (a : Op) (o : ObjectId) (w : IsMade (a ∷ []) o) → w.made.op ≡ a
+one_maker a o w = elim (Contains-cons_cases a [] w.made.op w.made.contained) [
   | inl e ↦ e
-  | inr i ↦ absurd (not_Contains-nil w.made.maker i)
+  | inr i ↦ absurd (not_Contains-nil w.made.op i)
 ]
 
 pub made_in : (h : List Op) (a : Op) → Contains h a → IsMade (a ∷ []) (own a) → IsMade h (own a)
@@ -129,7 +125,7 @@ once_more P ks ops groups more fresh first second p q = AllPairs-append (λ g k.
     q (λ g k x y e.
     let v = (first g x).1 in
     let w = (second k y).1 in
-    fresh v.made.maker w.made.maker v.made.contained w.made.contained
+    fresh v.made.op w.made.op v.made.contained w.made.contained
     (v.made.id ∙ (ap (λ (z : Group). z.object.0) e ∙ sym w.made.id)))
 
 module _ (h : List Op) (P : Group → Type 0) where
@@ -141,7 +137,7 @@ module _ (h : List Op) (P : Group → Type 0) where
   }
 
   pub have_none_yet : HaveVisible P h [] []
-  have_none_yet = have_none [] (λ o w. not_Contains-nil w.made.maker w.made.contained)
+  have_none_yet = have_none [] (λ o w. not_Contains-nil w.made.op w.made.contained)
 
   -- and of one that makes one
   pub have_of_one : (a : Op) → IsMade (a ∷ []) (own a) → (groups : List Group)

@@ -9,15 +9,15 @@ returns-in_default c = (
   λ t. absurd cc,
   λ m.
       let found = c.in-Some.ensures.found in
-      let one = same_op c.args.history.now.ops c.recall_valid.ensures m.made.maker
+      let one = same_op c.args.history.now.ops c.recall_valid.ensures m.made.op
       c.in-Some.maker.now m.made.contained found.0 (m.made.id ∙ sym found.1) in
-      let none : made_kind m.made.maker.change ≡ None = ap (λ (a : Op). made_kind a.change) one
+      let none : made_kind m.made.op.change ≡ None = ap (λ (a : Op). made_kind a.change) one
       ∙ ap made_kind c.in_default.is in
-      let some = m.made.kind in absurd cc,
+      let some = m.made.such in absurd cc,
 )
 
 pub returns-in-None : goal.returns-in-None
 returns-in-None c = (
   λ t. absurd cc,
-  λ m. absurd (c.in-None.ensures.none m.made.maker m.made.contained m.made.id),
+  λ m. absurd (c.in-None.ensures.none m.made.op m.made.contained m.made.id),
 )

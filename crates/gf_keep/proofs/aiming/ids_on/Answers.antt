@@ -3,7 +3,7 @@ use Rattle.std.specs.Prelude.{◌↔◌, Contains}
 use Rattle.gf_ops.specs.declared.op.Op.{Op}
 use Rattle.gf_ops.specs.declared.op.OpId.{OpId}
 use Rattle.gf_ops.specs.Attribute.{object_of}
-use Rattle.gf_ops.specs.Version.{HasOn}
+use Rattle.gf_ops.specs.HasOperation.{HasOn}
 use Rattle.gf_keep.proofs.AimingLemmas.{on_more, on_same, on_all}
 use Rattle.gf_keep.proofs.aiming.ids_on.Goals as goal
 use Rattle.gf_keep.proofs.aiming.ids_on.Goals.{then-is_on+in_ok-push, else-is_on}

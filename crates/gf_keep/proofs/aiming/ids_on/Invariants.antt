@@ -1,7 +1,7 @@
 use Rattle.std.proofs.Common.{take}
 use Rattle.std.specs.Prelude.{◌↔◌, Contains}
 use Rattle.gf_ops.specs.declared.op.OpId.{OpId}
-use Rattle.gf_ops.specs.Version.{HasOn}
+use Rattle.gf_ops.specs.HasOperation.{HasOn}
 use Rattle.gf_keep.proofs.aiming.ids_on.Given as goal
 
 abbrev pub invariant-loop-op : goal.invariant-loop-op

@@ -8,4 +8,4 @@ returns-in-Some c =
     c.in-Some.member.now f.0 c.args.id f.1 c.args.op.now)
 
 pub returns-in-None : goal.returns-in-None
-returns-in-None c = never (λ t. c.in-None.ensures.none t.op t.contained t.id)
+returns-in-None c = never (λ t. c.in-None.ensures.none t.on.op t.on.contained t.on.id)
