@@ -150,7 +150,7 @@ module _ (h : List Op) (hide : Op) (shows : List Op) (valid : IsValid h)
   brings_old : (a x : Op) → Contains h a → Brings all a x → Brings h a x
   brings_old a x i b = elim b [
     | inl e ↦ inl e
-    | inr t ↦ let m = (valid.aimed a i).each x.id t.aimed in
+    | inr t ↦ let m = ((valid.aimed a i).each x.id t.aimed).on in
         inr (record {
           contained = old_by_id x m.op t.contained m.contained (sym m.id);
           aimed = t.aimed;
