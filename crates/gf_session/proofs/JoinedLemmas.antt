@@ -156,7 +156,7 @@ module _ (ends : List WorkerEnd) (joined : AreJoined ends) where
     closed = λ a c i n.
         let t = from_some a c in
         has_beyond t.end.site.ops whole.added (within_whole t.end t.contained)
-            ((joined.complete t.end t.contained).valid.closed a t.has i n);
+        ((joined.complete t.end t.contained).valid.closed a t.has i n);
     suited = λ a c. let t = from_some a c in
         suited_beyond t.end.site.ops whole.added (within_whole t.end t.contained) a a.change
         ((joined.complete t.end t.contained).valid.suited a t.has);
