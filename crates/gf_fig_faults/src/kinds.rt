@@ -1,4 +1,4 @@
-//! What an object is, and where: what is seen of it in the window of an editor.
+//! An object by its kind and its place, as the window of an editor shows it.
 
 ghost use Rattle.std.specs.Prelude.{◌≤◌};
 
@@ -42,14 +42,14 @@ impl Kind {
 
 /// An object by its kind and place.
 #[derive(Clone, Copy, Debug, PartialEq, Eq)]
-pub struct Seen {
+pub struct Located {
     pub kind: Kind,
     /// The coordinates of the centre of an ellipse or a circle, of a compound's first corner, or
     /// of another object's first point.
     pub place: Option<(i64, i64)>,
 }
 
-impl fmt::Display for Seen {
+impl fmt::Display for Located {
     fn fmt<W: fmt::Write>(&self, f: &mut fmt::Formatter<W>) -> fmt::Result {
         let kind = self.kind.word();
         match self.place {
@@ -60,14 +60,14 @@ impl fmt::Display for Seen {
 }
 
 /// The object that begins on a line, counted from 1.
-pub fn seen_at(text: &[u8], line: u64) -> Option<Seen> {
-    object_seen(from_line(text, line))
+pub fn located_at(text: &[u8], line: u64) -> Option<Located> {
+    located_first(from_line(text, line))
 }
 
 /// The object that a text begins with.
-pub(crate) fn object_seen(object: &[u8]) -> Option<Seen> {
+pub(crate) fn located_first(object: &[u8]) -> Option<Located> {
     let kind = kind_of(object)?;
-    Some(Seen {
+    Some(Located {
         kind,
         place: place_of(object, kind),
     })

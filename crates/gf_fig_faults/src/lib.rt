@@ -3,7 +3,7 @@
 //!
 //! - [`drawing_faults`]: the faults of a text, in the order of their lines.
 //! - [`DrawingFaults`], [`DrawingFault`]: the faults, and one of them, as they are told.
-//! - [`seen_at`], [`Seen`]: the object that begins on a line, by its kind and place.
+//! - [`located_at`], [`Located`]: the object that begins on a line, by its kind and place.
 #![tactic(auto)]
 
 mod commenting;
@@ -14,6 +14,6 @@ mod problems;
 mod searching;
 
 pub use faults::{DrawingFault, DrawingFaults};
-pub use kinds::{Kind, Seen, seen_at};
+pub use kinds::{Kind, Located, located_at};
 pub use problems::{Explanation, Problem};
 pub use searching::drawing_faults;

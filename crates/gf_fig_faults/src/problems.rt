@@ -1,7 +1,7 @@
 //! What is wrong with an object, in the words of an editor, and what to do.
 
 use crate::fields::number_at;
-use crate::kinds::{Kind, Seen, object_seen};
+use crate::kinds::{Kind, Located, located_first};
 use gf_fig_tokens::FigFault;
 use std::fmt;
 
@@ -57,13 +57,13 @@ impl fmt::Display for Problem {
 /// An object, and what is wrong with it.
 #[derive(Clone, Copy, Debug, PartialEq, Eq)]
 pub struct Explanation {
-    pub seen: Seen,
+    pub located: Located,
     pub problems: [Option<Problem>; 4],
 }
 
 impl fmt::Display for Explanation {
     fn fmt<W: fmt::Write>(&self, f: &mut fmt::Formatter<W>) -> fmt::Result {
-        write!(f, "{}", self.seen)?;
+        write!(f, "{}", self.located)?;
         let mut behind = "";
         for problem in self.problems {
             if let Some(problem) = problem {
@@ -77,12 +77,12 @@ impl fmt::Display for Explanation {
 
 /// What explains this fault of the object that a text begins with, where its fields bear it out.
 pub(crate) fn explained(object: &[u8], fault: FigFault) -> Option<Explanation> {
-    let seen = object_seen(object)?;
-    let problems = problems_of(object, seen.kind, fault);
+    let located = located_first(object)?;
+    let problems = problems_of(object, located.kind, fault);
     if problems == [None; 4] {
         return None;
     }
-    Some(Explanation { seen, problems })
+    Some(Explanation { located, problems })
 }
 
 /// What is wrong with an object of this kind. With a fault of its style comes what is wrong with

@@ -1,6 +1,6 @@
 //! A figure that no operation can make.
 
-use gf_fig_faults::Seen;
+use gf_fig_faults::Located;
 use gf_objects::FigureFault;
 use std::fmt;
 
@@ -12,14 +12,14 @@ pub struct BrokenLimit {
     pub object: u64,
     pub fault: FigureFault,
     /// The object that the line begins with.
-    pub seen: Option<Seen>,
+    pub located: Option<Located>,
 }
 
 impl fmt::Display for BrokenLimit {
     fn fmt<W: fmt::Write>(&self, f: &mut fmt::Formatter<W>) -> fmt::Result {
         write!(f, "drawing line {}: {}", self.line, self.fault)?;
-        match self.seen {
-            Some(seen) => write!(f, ": {seen} {}", advice(self.fault)),
+        match self.located {
+            Some(located) => write!(f, ": {located} {}", advice(self.fault)),
             None => Ok(()),
         }
     }

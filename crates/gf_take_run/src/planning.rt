@@ -22,7 +22,7 @@ use gf_changes::{
     Matching, Target, alterations, arranged, first_beyond, has_change, matched, objects_not_shown,
     showing_again,
 };
-use gf_fig_faults::seen_at;
+use gf_fig_faults::located_at;
 use gf_fig_read::object_line;
 use gf_figures::Drawing;
 use gf_groups::{GroupFault, is_made};
@@ -236,7 +236,7 @@ fn broken_at(
             line,
             object,
             fault,
-            seen: seen_at(fig, line),
+            located: located_at(fig, line),
         })),
         None => Ok(None),
     }
