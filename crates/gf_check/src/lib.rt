@@ -5,6 +5,7 @@
 //! - [`faults_of`]: a line for each fault of a text, in the order in which they are met.
 #![tactic(auto)]
 
+mod arrived;
 mod checks;
 mod faults;
 mod forms;
@@ -16,7 +17,6 @@ mod lines;
 mod operation_reasons;
 mod plain;
 mod reasons;
-mod seen;
 mod telling;
 
 pub use checks::{Verdict, check_run};

@@ -10,10 +10,10 @@ ghost use Rattle.gf_check.specs.AllFaults.{AnswersText};
 ghost use Rattle.gf_check.specs.Telling.{HasTold, TellsOne, TellsOnce};
 ghost use Rattle.gf_check.specs.CheckedLines.{GoesOn, StepsOn};
 
+use crate::arrived::Arrived;
 use crate::line_reasons::line_reason;
 use crate::operation_reasons::{clash_reason, operation_reason};
 use crate::reasons::OperationReason;
-use crate::seen::Seen;
 use crate::telling::Telling;
 use gf_base::OutOfMemory;
 use gf_causal::OfferFault;
@@ -29,7 +29,7 @@ use std::alloc::Global;
 #[derive(Drop)]
 struct Check {
     replica: Replica,
-    seen: Seen,
+    arrived: Arrived,
     telling: Telling,
     commands: u64,
 }
@@ -42,7 +42,7 @@ pub fn faults_of(alloc: Global, text: Vec<u8>, editor: Option<u8>) -> Result<Vec
 {
     let mut check = Check {
         replica: Replica::new(alloc),
-        seen: Seen::new(alloc),
+        arrived: Arrived::new(alloc),
         telling: Telling::new(alloc),
         commands: 0,
     };
@@ -70,7 +70,7 @@ fn take_line(
         Ok(Entry::Operation(op)) => take_op(
             alloc,
             &mut check.replica,
-            &mut check.seen,
+            &mut check.arrived,
             &mut check.telling,
             number,
             op,
@@ -102,7 +102,7 @@ fn cause_of(fault: LineError) -> Result<LineCause, OutOfMemory>
 fn take_op(
     alloc: Global,
     replica: &mut Replica,
-    seen: &mut Seen,
+    arrived: &mut Arrived,
     telling: &mut Telling,
     number: u64,
     op: Op,
@@ -115,10 +115,10 @@ fn take_op(
     let copy = op.copy(alloc)?;
     match replica.receive(op) {
         Ok(_) => {
-            seen.put(number, copy)?;
-            step_all(alloc, replica, seen, telling)
+            arrived.put(number, copy)?;
+            step_all(alloc, replica, arrived, telling)
         }
-        Err(OfferFault::Clash) => tell_clash(alloc, seen, telling, number, &copy),
+        Err(OfferFault::Clash) => tell_clash(alloc, arrived, telling, number, &copy),
         Err(OfferFault::Range) => unreachable!(),
         Err(OfferFault::OutOfMemory) => Err(OutOfMemory),
     }
@@ -128,7 +128,7 @@ fn take_op(
 fn step_all(
     alloc: Global,
     replica: &mut Replica,
-    seen: &Seen,
+    arrived: &Arrived,
     telling: &mut Telling,
 ) -> Result<(), OutOfMemory>
     ensures { OnOk result (StepsOn replica.old telling.old replica.new telling.new) }
@@ -137,7 +137,13 @@ fn step_all(
         replica.recall_state();
         match replica.step() {
             Ok(Step::Applied(_)) => {}
-            Ok(Step::Dropped(id, fault)) => tell_drop(alloc, replica, seen, telling, (id, fault))?,
+            Ok(Step::Dropped(id, fault)) => tell_drop(
+                alloc,
+                replica,
+                arrived,
+                telling,
+                (id, fault),
+            )?,
             Ok(Step::Idle) => return Ok(()),
             Err(OutOfMemory) => return Err(OutOfMemory),
         }
@@ -161,10 +167,10 @@ fn tell_line(
     check.telling.tell_line(number, cause, why.as_bytes())
 }
 
-/// Tells that another operation came under an id.
+/// Tells that another operation arrived under an id.
 fn tell_clash(
     alloc: Global,
-    seen: &Seen,
+    arrived: &Arrived,
     telling: &mut Telling,
     number: u64,
     op: &Op,
@@ -172,7 +178,7 @@ fn tell_clash(
     ensures { (told : List Told) → HasTold told telling.old → OnOk result
         (TellsOne (ReadingError.Line number LineCause.Clash) told telling.new) }
 {
-    let reason = match seen.get(op.id) {
+    let reason = match arrived.get(op.id) {
         Some(first) => clash_reason(first, op),
         None => OperationReason::Unclear,
     };
@@ -184,7 +190,7 @@ fn tell_clash(
 fn tell_drop(
     alloc: Global,
     replica: &Replica,
-    seen: &Seen,
+    arrived: &Arrived,
     telling: &mut Telling,
     dropped: (OpId, OpFault),
 ) -> Result<(), OutOfMemory>
@@ -194,7 +200,7 @@ fn tell_drop(
     if telling.has_drop(dropped.0, dropped.1) {
         return Ok(());
     }
-    let reason = match seen.get(dropped.0) {
+    let reason = match arrived.get(dropped.0) {
         Some(last) => operation_reason(replica.history(), &last.op, dropped.1),
         None => OperationReason::Unclear,
     };

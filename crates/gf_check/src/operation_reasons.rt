@@ -1,7 +1,7 @@
 //! Why an operation doesn't fit.
 
+use crate::arrived::ArrivedLine;
 use crate::reasons::OperationReason;
-use crate::seen::SeenLine;
 use gf_ops::{Attr, Change, Form, History, ObjectId, Op, OpFault, OpId, Start, Value};
 
 /// What is wrong with an operation that was refused behind a history for this fault.
@@ -14,9 +14,9 @@ pub(crate) fn operation_reason(history: &History, op: &Op, fault: OpFault) -> Op
     }
 }
 
-/// Where another operation came under the id, and what differs first.
-pub(crate) fn clash_reason(seen: &SeenLine, op: &Op) -> OperationReason {
-    OperationReason::Clash(op.id, seen.number, difference(&seen.op, op))
+/// Where another operation arrived under the id, and what differs first.
+pub(crate) fn clash_reason(arrived: &ArrivedLine, op: &Op) -> OperationReason {
+    OperationReason::Clash(op.id, arrived.number, difference(&arrived.op, op))
 }
 
 // ---- clocks

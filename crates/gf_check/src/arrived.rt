@@ -1,4 +1,4 @@
-//! The operations that came, by id.
+//! The operations that arrived, by id.
 
 use gf_base::OutOfMemory;
 use gf_ops::{Op, OpId, same_op};
@@ -7,27 +7,27 @@ use std::collections::BTreeMap;
 
 /// An operation, and the number of its line.
 #[derive(Drop)]
-pub(crate) struct SeenLine {
+pub(crate) struct ArrivedLine {
     pub(crate) number: u64,
     pub(crate) op: Op,
 }
 
-/// The last operation that came under each id.
+/// The last operation that arrived under each id.
 #[derive(Drop)]
-pub(crate) struct Seen {
-    lines: BTreeMap<OpId, SeenLine>,
+pub(crate) struct Arrived {
+    lines: BTreeMap<OpId, ArrivedLine>,
 }
 
-impl Seen {
+impl Arrived {
     /// No operations.
-    pub(crate) fn new(alloc: Global) -> Seen {
-        Seen {
+    pub(crate) fn new(alloc: Global) -> Arrived {
+        Arrived {
             lines: BTreeMap::new(alloc),
         }
     }
 
     /// The operation under this id.
-    pub(crate) fn get(&self, id: OpId) -> Option<&SeenLine> {
+    pub(crate) fn get(&self, id: OpId) -> Option<&ArrivedLine> {
         self.lines.get(&id)
     }
 
@@ -36,7 +36,7 @@ impl Seen {
         if self.has(&op) {
             return Ok(());
         }
-        match self.lines.insert(op.id, SeenLine { number, op }) {
+        match self.lines.insert(op.id, ArrivedLine { number, op }) {
             Ok(_) => Ok(()),
             Err(_) => Err(OutOfMemory),
         }
