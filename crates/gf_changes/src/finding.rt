@@ -30,18 +30,18 @@ struct Look {
 }
 
 impl Finder {
-    /// A finder of versions, each of which looks like the candidate at its index. `seen` counts the
-    /// operations that the drawing knew.
+    /// A finder of versions, each of which looks like the candidate at its index. `known` counts
+    /// the operations that the drawing knew.
     pub(crate) fn of(
         alloc: Global,
         versions: &[Placed<AnyShape>],
         candidates: &[Candidate],
-        seen: &Clock,
+        known: &Clock,
     ) -> Result<Finder, OutOfMemory> {
         Ok(Finder {
             by_object: ranks_by_object(alloc, versions)?,
             by_look: looks_of(alloc, candidates)?,
-            newer: newer_than(alloc, versions, seen)?,
+            newer: newer_than(alloc, versions, known)?,
         })
     }
 
@@ -107,11 +107,11 @@ fn first_from(looks: &[Look], other: Look) -> usize {
 fn newer_than(
     alloc: Global,
     versions: &[Placed<AnyShape>],
-    seen: &Clock,
+    known: &Clock,
 ) -> Result<Vec<usize>, OutOfMemory> {
     let mut newer = Vec::new(alloc);
     for (index, version) in versions.iter().enumerate() {
-        if is_newer(version.key.object.0, seen) {
+        if is_newer(version.key.object.0, known) {
             newer.push(index)?;
         }
     }
@@ -119,6 +119,6 @@ fn newer_than(
 }
 
 /// Whether a clock does not count the operation of this id.
-fn is_newer(id: OpId, seen: &Clock) -> bool {
-    seen.entry(id.site) < id.seq
+fn is_newer(id: OpId, known: &Clock) -> bool {
+    known.entry(id.site) < id.seq
 }

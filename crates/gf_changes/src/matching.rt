@@ -55,18 +55,18 @@ struct Round {
 /// the figure has, then those that look like it. The pair that differs in fewest attributes goes
 /// first, then the figure in front, then the version above.
 ///
-/// `seen` counts the operations that the drawing knew. Only a polygon that may get other points is
-/// settled.
+/// `known` counts the operations that the drawing knew. Only a polygon that may get other points
+/// is settled.
 pub fn matched(
     alloc: Global,
     history: &History,
     versions: &[Placed<AnyShape>],
     targets: &[Target],
-    seen: &Clock,
+    known: &Clock,
 ) -> Result<Matching, OutOfMemory>
     requires { AreRanked history.now.ops versions.now }
 {
-    let mut matching = unmatched(alloc, versions, targets.len(), seen)?;
+    let mut matching = unmatched(alloc, versions, targets.len(), known)?;
     for count in 0..=3 {
         let way = Way::Named;
         match_all(
@@ -97,7 +97,7 @@ fn unmatched(
     alloc: Global,
     versions: &[Placed<AnyShape>],
     count: usize,
-    seen: &Clock,
+    known: &Clock,
 ) -> Result<Matching, OutOfMemory> {
     let mut figures = Vec::with_capacity(alloc, count)?;
     for _ in 0..count {
@@ -111,7 +111,7 @@ fn unmatched(
             figure: None,
         })?;
     }
-    let finder = Finder::of(alloc, versions, &candidates, seen)?;
+    let finder = Finder::of(alloc, versions, &candidates, known)?;
     Ok(Matching {
         versions: figures,
         candidates,

@@ -113,7 +113,7 @@ taken_next known t answer new x y d takes is =
       next = known ++ new;
       answers = record { history = x.ops; new = new; takes = takes; joined = refl };
       delivered = subst (HasDelivered (known ++ new)) (sym is)
-          (takes_on t.request.site takes.seen known drawn.base new x d takes.read drawn.is_base
+          (takes_on t.request.site takes.knew known drawn.base new x d takes.read drawn.is_base
           drawn.changes drawn.takes.makes);
     }
 

@@ -1,4 +1,5 @@
--- How far the operations reach that a site saw, and that exactly those up to there are known.
+-- How far the operations reach that a clock counts or a site made, and that exactly those up to
+-- there are known.
 use Rattle.std.proofs.Common.{◌≡◌, ◌≢◌, ℕ, zero, suc, ◌+◌, ◌≤◌, ◌<◌, true, false, List, []}
 use Rattle.std.proofs.Common.{◌∷◌, ◌++◌, filter, length, take, get_or, refl, sym, ap, subst, ◌∙◌}
 use Rattle.std.proofs.Common.{inl, inr, arith}
@@ -20,8 +21,8 @@ use Rattle.gf_ops.proofs.CountedLemmas.{number_counted}
 use Rattle.gf_ops.proofs.HistoryLemmas.{seq_in_range, site_in_range}
 use Rattle.gf_ops.proofs.ValidityLemmas.{same_op}
 use Rattle.gf_causal.proofs.CourseLemmas.{same_id}
-use Rattle.gf_take.specs.Bases.{IsBase, IsKnownTo, IsSeen}
-use Rattle.gf_take.specs.Reaching.{AreReached, IsReach, ReachesTo, is_counted, is_seen, reach_at}
+use Rattle.gf_take.specs.Bases.{IsBase, IsKnownTo, IsOwnOrCounted}
+use Rattle.gf_take.specs.Reaching.{AreReached, IsReach, ReachesTo, is_counted, is_own_or_counted, reach_at}
 use Rattle.gf_take.proofs.KeptLemmas.{kept_accepted, kept_more, kept_same, next_kept}
 use Rattle.gf_take.proofs.PartLemmas.{known_before}
 
@@ -33,24 +34,24 @@ module _ (s : ℕ) (c : Clock) (t : ℕ) where
   reached_more h a n r = record {
     op = r.op;
     contained = Contains-append_left h (a ∷ []) r.op r.contained;
-    seen = r.seen;
+    counted = r.counted;
     reach = r.reach;
   }
 
-  pub reach_same : (h : List Op) (a : Op) (n : ℕ) → IsReach s c t h n → is_seen s c a ≡ false
+  pub reach_same : (h : List Op) (a : Op) (n : ℕ) → IsReach s c t h n → is_own_or_counted s c a ≡ false
       → IsReach s c t (h ++ a ∷ []) n
-  reach_same h a n r unseen = record {
-    most = λ x m seen. elim (Contains-push_cases h a x m) [
-      | inl k ↦ r.most x k seen
-      | inr e ↦ let f : is_seen s c x ≡ false = subst (λ y. is_seen s c y ≡ false) e unseen in
+  reach_same h a n r other = record {
+    most = λ x m counted. elim (Contains-push_cases h a x m) [
+      | inl k ↦ r.most x k counted
+      | inr e ↦ let f : is_own_or_counted s c x ≡ false = subst (λ y. is_own_or_counted s c y ≡ false) e other in
           absurd cc
     ];
     least = elim r.least [ inl e ↦ inl e | inr w ↦ inr (reached_more h a n w) ];
   }
 
-  pub reach_more : (h : List Op) (a : Op) (n m : ℕ) → IsReach s c t h n → is_seen s c a ≡ true
+  pub reach_more : (h : List Op) (a : Op) (n m : ℕ) → IsReach s c t h n → is_own_or_counted s c a ≡ true
       → n ≤ m → reach_at t a ≤ m → (m ≡ n) ⊎ (m ≡ reach_at t a) → IsReach s c t (h ++ a ∷ []) m
-  reach_more h a n m r seen l k e = record {
+  reach_more h a n m r counted l k e = record {
     most = λ x i u. elim (Contains-push_cases h a x i) [
       | inl j ↦ let q = r.most x j u in omega arith
       | inr q ↦ subst (λ y. reach_at t y ≤ m) q k
@@ -63,7 +64,7 @@ module _ (s : ℕ) (c : Clock) (t : ℕ) where
       | inr same ↦ inr (record {
         op = a;
         contained = Contains-push h a;
-        seen = seen;
+        counted = counted;
         reach = omega arith;
       })
     ];
@@ -74,15 +75,15 @@ module _ (s : ℕ) (c : Clock) (t : ℕ) where
     item_more : take (i + 1) h ≡ take i h ++ a ∷ []
     item_more = take_more h i a within ∙ ap (λ y. take i h ++ y ∷ []) (sym is)
 
-    pub unseen_item : (n : ℕ) → IsReach s c t (take i h) n → is_seen s c a ≡ false
+    pub reach_item_same : (n : ℕ) → IsReach s c t (take i h) n → is_own_or_counted s c a ≡ false
         → IsReach s c t (take (i + 1) h) n
-    unseen_item n r unseen =
-        subst (λ l. IsReach s c t l n) (sym item_more) (reach_same (take i h) a n r unseen)
+    reach_item_same n r other =
+        subst (λ l. IsReach s c t l n) (sym item_more) (reach_same (take i h) a n r other)
 
-    pub seen_item : (n m : ℕ) → IsReach s c t (take i h) n → is_seen s c a ≡ true → n ≤ m
+    pub reach_item_more : (n m : ℕ) → IsReach s c t (take i h) n → is_own_or_counted s c a ≡ true → n ≤ m
         → reach_at t a ≤ m → (m ≡ n) ⊎ (m ≡ reach_at t a) → IsReach s c t (take (i + 1) h) m
-    seen_item n m r seen l k e =
-        subst (λ l. IsReach s c t l m) (sym item_more) (reach_more (take i h) a n m r seen l k e)
+    reach_item_more n m r counted l k e =
+        subst (λ l. IsReach s c t l m) (sym item_more) (reach_more (take i h) a n m r counted l k e)
 
 -- the greater of two numbers is one of them
 pub one_of_two : (a b m : ℕ) → m ≡ max a b → (m ≡ b) ⊎ (m ≡ a)
@@ -100,15 +101,15 @@ reach_other : (t : ℕ) (x : Op) → nat_eq x.id.site t ≡ false → reach_at t
 reach_other t x e = rw e refl
 
 module _ (s : ℕ) (c : Clock) where
-  seen_told : (x : Op) → is_seen s c x ≡ true → IsSeen s c x
-  seen_told x t = elim (or_cases (nat_eq x.id.site s) (nat_le x.id.seq (entry c x.id.site)) t) [
+  own_or_counted_told : (x : Op) → is_own_or_counted s c x ≡ true → IsOwnOrCounted s c x
+  own_or_counted_told x t = elim (or_cases (nat_eq x.id.site s) (nat_le x.id.seq (entry c x.id.site)) t) [
     | inl e ↦ inr (eqb-true x.id.site s e)
     | inr l ↦ inl (leb-true x.id.seq (entry c x.id.site) l)
   ]
 
-  seen_from : (x : Op) → IsSeen s c x → is_seen s c x ≡ true
-  seen_from x (inl l) = or_right _ _ (le-leb x.id.seq (entry c x.id.site) l)
-  seen_from x (inr e) = or_left _ _ (eq-eqb x.id.site s e)
+  own_or_counted_true : (x : Op) → IsOwnOrCounted s c x → is_own_or_counted s c x ≡ true
+  own_or_counted_true x (inl l) = or_right _ _ (le-leb x.id.seq (entry c x.id.site) l)
+  own_or_counted_true x (inr e) = or_left _ _ (eq-eqb x.id.site s e)
 
   module _ (h : List Op) (valid : IsValid h) (reach : Clock)
       (reached : AreReached s c h reach) where
@@ -157,18 +158,18 @@ module _ (s : ℕ) (c : Clock) where
               let q = w.reach in
               record {
                 contained = m;
-                seen = w.op;
+                counted = w.op;
                 there = w.contained;
-                is_seen = seen_told w.op w.seen;
+                is_own_or_counted = own_or_counted_told w.op w.counted;
                 known = reached_known a w.op m w.contained (omega arith);
               }
         ]
 
     pub known_counted : (a : Op) → IsKnownTo s c h a → is_counted reach a ≡ true
     known_counted a k =
-        let most = (reached a.id.site (site_of a k.contained)).most k.seen k.there
-        (seen_from k.seen k.is_seen) in
-        let l = known_reached a k.seen k.there k.known in
+        let most = (reached a.id.site (site_of a k.contained)).most k.counted k.there
+        (own_or_counted_true k.counted k.is_own_or_counted) in
+        let l = known_reached a k.counted k.there k.known in
         le-leb a.id.seq (entry reach a.id.site) (omega arith)
 
     -- what comes before an operation that is counted is counted
@@ -194,9 +195,9 @@ module _ (s : ℕ) (c : Clock) where
     exactly = λ a. (
       λ m. record {
         contained = m;
-        seen = a;
+        counted = a;
         there = m;
-        is_seen = elim (cases_eq a.id.site s) [
+        is_own_or_counted = elim (cases_eq a.id.site s) [
           | inl own ↦ inr own
           | inr other ↦
               let most = number_counted h valid a m in

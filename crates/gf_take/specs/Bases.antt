@@ -1,4 +1,4 @@
--- The base of what a designer saw, and new operations of one site behind it (this project's
+-- The base of what a drawing knew, and new operations of one site behind it (this project's
 -- choice, over causal delivery).
 use Rattle.std.specs.Prelude.{◌≡◌, ◌≢◌, ◌⊎◌, ◌↔◌, ℕ, ◌≤◌, List, ◌++◌, AllPairs, Contains}
 use Rattle.gf_ops.specs.declared.op.Op.{Op}
@@ -18,19 +18,19 @@ pub record IsClosedPart (h b : List Op) : Type 0 where
   pub closed : (a x : Op) → Contains b a → Contains h x → Precedes x a → Contains b x
 
 -- the clock c counts a, or a is of site s
-abbrev pub IsSeen : ℕ → Clock → Op → Type 0
-IsSeen s c a = (a.id.seq ≤ entry c a.id.site) ⊎ (a.id.site ≡ s)
+abbrev pub IsOwnOrCounted : ℕ → Clock → Op → Type 0
+IsOwnOrCounted s c a = (a.id.seq ≤ entry c a.id.site) ⊎ (a.id.site ≡ s)
 
--- a is an operation of h that is seen by site s up to c, or that one of these knows
+-- a is an operation of h that c counts or site s made, or that one of these knows
 pub record IsKnownTo (s : ℕ) (c : Clock) (h : List Op) (a : Op) : Type 0 where
   pub contained : Contains h a
-  pub seen : Op
-  pub there : Contains h seen
-  pub is_seen : IsSeen s c seen
-  pub known : (a ≡ seen) ⊎ Precedes a seen
+  pub counted : Op
+  pub there : Contains h counted
+  pub is_own_or_counted : IsOwnOrCounted s c counted
+  pub known : (a ≡ counted) ⊎ Precedes a counted
 
--- b is the base of h for site s, which saw the operations up to c: these, its own, and all that
--- they know, each accepted behind those before it
+-- b is the base of h for site s: the operations that c counts, those of s, and all that they know,
+-- each accepted behind those before it
 pub record IsBase (s : ℕ) (c : Clock) (h b : List Op) : Type 0 where
   pub exactly : (a : Op) → Contains b a ↔ IsKnownTo s c h a
   pub accepted : AreAccepted b

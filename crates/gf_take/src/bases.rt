@@ -1,10 +1,10 @@
-//! The base of a site: what a designer saw, all that the site made, and what these know.
+//! The base of a site: what a drawing knew, all that the site made, and what these know.
 
 ghost use Rattle.std.specs.Prelude.{◌≡◌, [], ℕ, IfOk, IsTrue, max};
 ghost use Rattle.gf_ops.specs.OperationOrder.{IsSite, entry};
 ghost use Rattle.gf_ops.specs.ValidHistory.{IsValid};
 ghost use Rattle.gf_take.specs.Bases.{IsBase};
-ghost use Rattle.gf_take.specs.Reaching.{AreReached, is_counted, is_seen, reach_at};
+ghost use Rattle.gf_take.specs.Reaching.{AreReached, is_counted, is_own_or_counted, reach_at};
 
 use gf_base::OutOfMemory;
 use gf_ops::{Clock, History, Op};
@@ -18,15 +18,15 @@ pub fn base_site(
     alloc: Global,
     site: u8,
     history: &History,
-    seen: &Clock,
+    known: &Clock,
 ) -> Result<Site, OutOfMemory>
     requires { IsSite site }
-    ensures base { IfOk result (λ base. IsBase site seen.now history.now.ops base.ops) }
+    ensures base { IfOk result (λ base. IsBase site known.now history.now.ops base.ops) }
     ensures number { IfOk result (λ base. base.number ≡ site) }
     ensures held { IfOk result (λ base. base.held ≡ []) }
 {
     let ops = history.ops();
-    let reach = reach(site, seen, ops);
+    let reach = reach(site, known, ops);
     let mut base = Site::new(alloc, site);
     for op in ops {
         if is_counted(&reach, op) {
@@ -38,28 +38,28 @@ pub fn base_site(
 
 /// Whether the base of a site is all of a history, as the clock counts all operations of each other
 /// site. Whether the base has the others because it knows them is not looked for.
-pub fn is_whole_base(site: u8, history: &History, seen: &Clock) -> bool
-    ensures { IsTrue result → IsBase site seen.now history.now.ops history.now.ops }
+pub fn is_whole_base(site: u8, history: &History, known: &Clock) -> bool
+    ensures { IsTrue result → IsBase site known.now history.now.ops history.now.ops }
 {
     history.recall_valid();
     history.recall_accepted();
     for of in 1..9 {
-        if of != site && seen.entry(of) < history.count(of) {
+        if of != site && known.entry(of) < history.count(of) {
             return false;
         }
     }
     true
 }
 
-/// How far the operations reach that a site saw: for each site the greatest number among them and
-/// those that they know.
-pub fn reach(site: u8, seen: &Clock, ops: &[Op]) -> Clock
+/// How far the operations reach that a clock counts or a site made. For each site this is the
+/// greatest number among them and those that they know.
+pub fn reach(site: u8, known: &Clock, ops: &[Op]) -> Clock
     requires { IsValid ops.now }
-    ensures { AreReached site seen.now ops.now result }
+    ensures { AreReached site known.now ops.now result }
 {
     let mut reach = Clock([0; 8]);
     for op in ops {
-        if is_seen(site, seen, op) {
+        if is_own_or_counted(site, known, op) {
             reach = raised(&reach, op);
         }
     }
@@ -91,12 +91,12 @@ fn raised_at(of: u8, clock: &Clock, op: &Op) -> u32
     reach_at(of, op).max(clock.entry(of))
 }
 
-/// Whether a site saw the operation: the clock counts it, or it is of the site.
-fn is_seen(site: u8, seen: &Clock, op: &Op) -> bool
+/// Whether the clock counts the operation, or the site made it.
+fn is_own_or_counted(site: u8, known: &Clock, op: &Op) -> bool
     requires { IsSite op.now.id.site }
-    ensures { result ≡ is_seen site seen.now op.now }
+    ensures { result ≡ is_own_or_counted site known.now op.now }
 {
-    op.id.site == site || op.id.seq <= seen.0[usize::from(op.id.site) - 1]
+    op.id.site == site || op.id.seq <= known.0[usize::from(op.id.site) - 1]
 }
 
 /// How many operations of a site there are up to this one.

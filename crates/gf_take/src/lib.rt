@@ -1,8 +1,8 @@
 //! What a site takes from a drawing that was changed elsewhere: new operations behind a base, and
 //! the check that the history with them shows the drawing.
 //!
-//! - [`reach`]: how far the operations reach that a designer saw.
-//! - [`base_site`]: a site that has what a designer saw, and all of its own; [`is_whole_base`]:
+//! - [`reach`]: how far the operations reach that a drawing knew or a site made.
+//! - [`base_site`]: a site that has what a drawing knew, and all of its own; [`is_whole_base`]:
 //!   whether that is all of a history.
 //! - [`make_all`]: makes changes behind the base of a site.
 //! - [`looks_like`]: whether versions look like a drawing, figure by figure;

@@ -1,5 +1,5 @@
 pub mod PartingLemmas
-pub mod SeenLemmas
+pub mod NewerLemmas
 pub mod MakingLemmas
 pub mod TakeLemmas
 pub mod CountingLemmas

@@ -59,7 +59,7 @@ use Rattle.gf_take_run.specs.declared.taken.Taken.{Taken}
 use Rattle.gf_take_run.specs.declared.behind.MadeBehind.{MadeBehind}
 use Rattle.gf_run.specs.declared.answering.Answer.{Answer}
 use Rattle.gf_take_run.specs.Parting.{IsParted}
-use Rattle.gf_take_run.specs.SeenDrawing.{AreThere, IsAbsent, IsNewer, since_drawing}
+use Rattle.gf_take_run.specs.KnownHistory.{AreThere, IsAbsent, IsNewer, since_drawing}
 use Rattle.gf_take_run.specs.TakenText.{DenotesDrawing, DenotesLines}
 use Rattle.gf_take_run.specs.TakeRun.{DenotesOps, GoesBeyond, HasBase, HasBlocking, HasNewer}
 use Rattle.gf_take_run.specs.TakeRun.{IsExhausted, RefusesFigText}
@@ -192,16 +192,16 @@ written_denotes new text w =
 
 -- what is made behind a base is taken, where all that the drawing knew is there, and no operation
 -- of the site is newer
-pub takes_so : (q : TakeRequest) (h : List Op) (fig : List ℕ) (drawing : Drawn) (seen : Clock)
-    (m : MadeBehind) (t : Answer Taken) → AreThere seen h
-    → ((a x : Op) → ¬ (IsNewer q.site seen h a x)) → MakesBehind q h fig drawing seen m
+pub takes_so : (q : TakeRequest) (h : List Op) (fig : List ℕ) (drawing : Drawn) (knew : Clock)
+    (m : MadeBehind) (t : Answer Taken) → AreThere knew h
+    → ((a x : Op) → ¬ (IsNewer q.site knew h a x)) → MakesBehind q h fig drawing knew m
     → IsWrittenText q.named h m.ops.items t.text.items → t.value.made ≡ made_of m.ops.items
     → CountsObjects alters m.ops.items t.value.changed
     → CountsObjects hides m.ops.items t.value.hidden
     → CountsObjects creates m.ops.items t.value.drawn
-    → t.value.since ≡ since_drawing q.site seen h → t.value.thin.items ≡ m.thin.items
-    → TakesSo q h fig drawing seen m.ops.items t
-takes_so q h fig drawing seen m t there young behind text made changed hidden drawn since thin =
+    → t.value.since ≡ since_drawing q.site knew h → t.value.thin.items ≡ m.thin.items
+    → TakesSo q h fig drawing knew m.ops.items t
+takes_so q h fig drawing knew m t there young behind text made changed hidden drawn since thin =
     record {
       taken = record {
         there = there;
@@ -316,13 +316,13 @@ other_refused s after b fig d (Ok made) other f = tt
 other_refused s after b fig d (Err e) other f = plan_refuses s after b fig d e other f
 
 -- why the base makes nothing is why nothing is taken behind it
-base_refuses : (q : TakeRequest) (h base : List Op) (fig : List ℕ) (d : Drawn) (seen : Clock)
-    (e : DrawingError) → AreThere seen h → ((a x : Op) → ¬ (IsNewer q.site seen h a x))
-    → IsBase q.site seen h base → RefusesBase q.site q.after base fig d e
-    → RefusesDrawing q h fig d seen e
-base_refuses q h base fig d seen e there young is = cases e
+base_refuses : (q : TakeRequest) (h base : List Op) (fig : List ℕ) (d : Drawn) (knew : Clock)
+    (e : DrawingError) → AreThere knew h → ((a x : Op) → ¬ (IsNewer q.site knew h a x))
+    → IsBase q.site knew h base → RefusesBase q.site q.after base fig d e
+    → RefusesDrawing q h fig d knew e
+base_refuses q h base fig d knew e there young is = cases e
   where
-    from : (Such : List Op → Drawn → Type 0) → Such base d → HasBase q.site Such h d seen
+    from : (Such : List Op → Drawn → Type 0) → Such base d → HasBase q.site Such h d knew
     from Such such = record {
       there = there;
       young = young;
@@ -332,7 +332,7 @@ base_refuses q h base fig d seen e there young is = cases e
     }
 
     cases : (e : DrawingError) → RefusesBase q.site q.after base fig d e
-        → RefusesDrawing q h fig d seen e
+        → RefusesDrawing q h fig d knew e
     cases error.OutOfMemory f = tt
     cases error.TooManyFigures f = from ShowsMany f
     cases (error.Figure broken) f = (from (GoesBeyond broken.object broken.fault) f.0, f.1)
@@ -343,41 +343,41 @@ base_refuses q h base fig d seen e there young is = cases e
     cases (error.Older i j) f = absurd f
 
 -- why nothing is made behind what the drawing knew is why nothing is taken
-pub behind_refused : (q : TakeRequest) (h : List Op) (fig : List ℕ) (d : Drawn) (seen : Clock)
-    (e : DrawingError) → AreThere seen h → ((a x : Op) → ¬ (IsNewer q.site seen h a x))
-    → RefusesBehind q h fig d seen e → RefusesDrawing q h fig d seen e
-behind_refused q h fig d seen e there young (inl is) =
-    subst (RefusesDrawing q h fig d seen) (sym is) tt
-behind_refused q h fig d seen e there young (inr f) =
-    base_refuses q h f.base fig d seen e there young f.is_base f.refused
+pub behind_refused : (q : TakeRequest) (h : List Op) (fig : List ℕ) (d : Drawn) (knew : Clock)
+    (e : DrawingError) → AreThere knew h → ((a x : Op) → ¬ (IsNewer q.site knew h a x))
+    → RefusesBehind q h fig d knew e → RefusesDrawing q h fig d knew e
+behind_refused q h fig d knew e there young (inl is) =
+    subst (RefusesDrawing q h fig d knew) (sym is) tt
+behind_refused q h fig d knew e there young (inr f) =
+    base_refuses q h f.base fig d knew e there young f.is_base f.refused
 
 module _ (q : TakeRequest) (known : List Op) (fig : List ℕ) (h : List Op)
-    (read : AreRead q.site known h) (drawing : Drawn) (seen : Clock)
-    (drawn : DenotesDrawing fig drawing seen) where
-  pub taken_behind : (new : List Op) (t : Answer Taken) → TakesSo q h fig drawing seen new t
+    (read : AreRead q.site known h) (drawing : Drawn) (knew : Clock)
+    (drawn : DenotesDrawing fig drawing knew) where
+  pub taken_behind : (new : List Op) (t : Answer Taken) → TakesSo q h fig drawing knew new t
       → TakesBehind q known h fig new t
   taken_behind new t p = record {
     read = read;
     drawing = drawing;
-    seen = seen;
+    knew = knew;
     drawn = drawn;
     takes = p;
   }
 
-  both : (Such : List Op → Drawn → Clock → Type 0) → Such h drawing seen
+  both : (Such : List Op → Drawn → Clock → Type 0) → Such h drawing knew
       → ReadsBoth q.site known fig Such
   both Such such = record {
     history = h;
     read = read;
     drawing = drawing;
-    seen = seen;
+    knew = knew;
     drawn = drawn;
     such = such;
   }
 
-  pub refused_behind : (e : DrawingError) → RefusesDrawing q h fig drawing seen e
+  pub refused_behind : (e : DrawingError) → RefusesDrawing q h fig drawing knew e
       → RefusesFigText q known fig (told e)
-  refused_behind (error.Absent i) f = both (λ h drawing seen. IsAbsent seen h i) f
+  refused_behind (error.Absent i) f = both (λ h drawing knew. IsAbsent knew h i) f
   refused_behind (error.Older i j) f = both (HasNewer q.site i j) f
   refused_behind error.TooManyFigures f = inr (both (HasBase q.site ShowsMany) f)
   refused_behind (error.Figure broken) f =
@@ -402,7 +402,7 @@ module _ (q : TakeRequest) (bytes lines fig : List ℕ) (parted : IsParted bytes
       history = is.history;
       read = record { ops = is.ops; denoted = is.denoted; read = p.read };
       drawing = p.drawing;
-      seen = p.seen;
+      knew = p.knew;
       drawn = p.drawn;
       taken = p.takes.taken;
     };

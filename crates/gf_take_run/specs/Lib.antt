@@ -1,6 +1,6 @@
 pub mod Parting
 pub mod PartingSteps
-pub mod SeenDrawing
+pub mod KnownHistory
 pub mod ChangedObjects
 pub mod LeftObjects
 pub mod ShownText

@@ -40,7 +40,7 @@ use Rattle.gf_take_run.specs.declared.taken.Taken.{Taken}
 use Rattle.gf_take_run.specs.declared.request.TakeRequest.{TakeRequest}
 use Rattle.gf_take_run.specs.ShownText.{IsShownText}
 use Rattle.gf_take_run.specs.Parting.{BeginsFig, IsParted}
-use Rattle.gf_take_run.specs.SeenDrawing.{AreThere, IsAbsent, IsNewer, since_drawing}
+use Rattle.gf_take_run.specs.KnownHistory.{AreThere, IsAbsent, IsNewer, since_drawing}
 use Rattle.gf_take_run.specs.TakenText.{DenotesDrawing, DenotesTake}
 use Rattle.gf_take_run.specs.ToldNumbers.{CountsObjects, alters, creates, hides}
 
@@ -66,7 +66,7 @@ pub record TakesText (q : TakeRequest) (bytes text : List ℕ) (taken : Taken) :
   pub changed : CountsObjects alters new taken.changed
   pub hidden : CountsObjects hides new taken.hidden
   pub drawn : CountsObjects creates new taken.drawn
-  pub since : taken.since ≡ since_drawing q.site denoted.seen denoted.history
+  pub since : taken.since ≡ since_drawing q.site denoted.knew denoted.history
   pub thin : AreThinOf denoted.taken.base taken.thin.items
 
 -- known bytes grow from old to new by the lines of what is taken, which is told
@@ -113,17 +113,17 @@ pub record ReadsBoth (s : ℕ) (known : List Op) (fig : List ℕ)
   pub history : List Op
   pub read : AreRead s known history
   pub drawing : Drawn
-  pub seen : Clock
-  pub drawn : DenotesDrawing fig drawing seen
-  pub such : Such history drawing seen
+  pub knew : Clock
+  pub drawn : DenotesDrawing fig drawing knew
+  pub such : Such history drawing knew
 
 -- all that the drawing knew is in h, no operation of site s is newer, and this holds of the base
 pub record HasBase (s : ℕ) (Such : List Op → Drawn → Type 0) (h : List Op) (drawing : Drawn)
-    (seen : Clock) : Type 0 where
-  pub there : AreThere seen h
-  pub young : (a x : Op) → ¬ (IsNewer s seen h a x)
+    (knew : Clock) : Type 0 where
+  pub there : AreThere knew h
+  pub young : (a x : Op) → ¬ (IsNewer s knew h a x)
   pub base : List Op
-  pub is_base : IsBase s seen h base
+  pub is_base : IsBase s knew h base
   pub such : Such base drawing
 
 -- the base shows more versions than a drawing has
@@ -166,11 +166,11 @@ pub record IsBehind (s : ℕ) (after : Option ℕ) (i : OpId) (base : List Op) (
 
 -- an operation of the site under the id i knows one of another site under j, and the drawing did
 -- not
-pub record HasNewer (s : ℕ) (i j : OpId) (h : List Op) (drawing : Drawn) (seen : Clock)
+pub record HasNewer (s : ℕ) (i j : OpId) (h : List Op) (drawing : Drawn) (knew : Clock)
     : Type 0 where
   pub op : Op
   pub known : Op
-  pub newer : IsNewer s seen h op known
+  pub newer : IsNewer s knew h op known
   pub named : i ≡ op.id
   pub names : j ≡ known.id
 
@@ -187,7 +187,7 @@ RefusesFigText q known fig refused.TooManyFigures =
     ⊎ ReadsBoth q.site known fig (HasBase q.site ShowsMany)
 RefusesFigText q known fig refused.Unnamed = ReadsLines q.site known (λ h. IsUnnamed fig)
 RefusesFigText q known fig (refused.Absent i) =
-    ReadsBoth q.site known fig (λ h drawing seen. IsAbsent seen h i)
+    ReadsBoth q.site known fig (λ h drawing knew. IsAbsent knew h i)
 RefusesFigText q known fig (refused.Older i j) = ReadsBoth q.site known fig (HasNewer q.site i j)
 RefusesFigText q known fig (refused.Figure broken) =
     ReadsBoth q.site known fig (HasBase q.site (GoesBeyond broken.object broken.fault))

@@ -36,7 +36,7 @@ use Rattle.gf_take_run.specs.TakenBehind.{TakesBehind}
 use Rattle.gf_take_run.specs.ToldNumbers.{CountsObjects, alters, creates, hides}
 use Rattle.gf_take_run.specs.declared.take_run_error.TakeRunError.{TakeRunError}
 use Rattle.gf_take_run.specs.declared.take_run_error.TakeRunError.TheVariants as refused
-use Rattle.gf_take_run.specs.SeenDrawing.{IsAbsent, IsNewer}
+use Rattle.gf_take_run.specs.KnownHistory.{IsAbsent, IsNewer}
 use Rattle.gf_take_run.specs.TakeRun.{BreaksLimit, GoesBeyond, HasBase, HasNewer, IsExhausted}
 use Rattle.gf_take_run.specs.TakeRun.{IsBehind, LooksOtherwise, ShowsMany, StaysWithin}
 
@@ -89,9 +89,9 @@ pub record MakesFrom (s : ℕ) (after : Option ℕ) (b : List Op) (fig : List �
 -- what is made of a drawing behind what it knew of h, and the named text of all operations, where
 -- it was asked for
 pub record MakesBehind (q : TakeRequest) (h : List Op) (fig : List ℕ) (drawing : Drawn)
-    (seen : Clock) (made : MadeBehind) : Type 0 where
+    (knew : Clock) (made : MadeBehind) : Type 0 where
   pub base : List Op
-  pub is_base : IsBase q.site seen h base
+  pub is_base : IsBase q.site knew h base
   pub taken : TakesFrom q.site q.after base fig drawing made.ops.items
   pub site : made.site.ops ≡ h ++ made.ops.items
   pub thin : AreThinOf base made.thin.items
@@ -117,19 +117,19 @@ RefusesBase s after b fig drawing (error.Behind i) = IsBehind s after i b drawin
 
 -- why the site takes nothing of the drawing, which reads so
 abbrev pub RefusesDrawing : TakeRequest → List Op → List ℕ → Drawn → Clock → DrawingError → Type 0
-RefusesDrawing q h fig drawing seen error.OutOfMemory = ⊤
-RefusesDrawing q h fig drawing seen (error.Absent i) = IsAbsent seen h i
-RefusesDrawing q h fig drawing seen (error.Older i j) = HasNewer q.site i j h drawing seen
-RefusesDrawing q h fig drawing seen error.TooManyFigures = HasBase q.site ShowsMany h drawing seen
-RefusesDrawing q h fig drawing seen (error.Figure broken) =
-    HasBase q.site (GoesBeyond broken.object broken.fault) h drawing seen
+RefusesDrawing q h fig drawing knew error.OutOfMemory = ⊤
+RefusesDrawing q h fig drawing knew (error.Absent i) = IsAbsent knew h i
+RefusesDrawing q h fig drawing knew (error.Older i j) = HasNewer q.site i j h drawing knew
+RefusesDrawing q h fig drawing knew error.TooManyFigures = HasBase q.site ShowsMany h drawing knew
+RefusesDrawing q h fig drawing knew (error.Figure broken) =
+    HasBase q.site (GoesBeyond broken.object broken.fault) h drawing knew
     × BeginsOn fig broken.object broken.line
-RefusesDrawing q h fig drawing seen (error.Behind i) =
-    HasBase q.site (IsBehind q.site q.after i) h drawing seen
-RefusesDrawing q h fig drawing seen error.Exhausted =
-    HasBase q.site (IsExhausted q.site) h drawing seen
-RefusesDrawing q h fig drawing seen error.Differs =
-    HasBase q.site LooksOtherwise h drawing seen
+RefusesDrawing q h fig drawing knew (error.Behind i) =
+    HasBase q.site (IsBehind q.site q.after i) h drawing knew
+RefusesDrawing q h fig drawing knew error.Exhausted =
+    HasBase q.site (IsExhausted q.site) h drawing knew
+RefusesDrawing q h fig drawing knew error.Differs =
+    HasBase q.site LooksOtherwise h drawing knew
 
 -- i is the last operation of site s in the base, of which there are more than so many
 pub record IsBeyondMost (s : ℕ) (after : Option ℕ) (base : List Op) (i : OpId) : Type 0 where
@@ -157,15 +157,15 @@ RefusesPlan s b fig drawing (error.Behind i) = ⊥
 
 -- site q.site has a base of h behind which it makes nothing of the drawing, for this
 pub record RefusesBehindBase (q : TakeRequest) (h : List Op) (fig : List ℕ) (drawing : Drawn)
-    (seen : Clock) (e : DrawingError) : Type 0 where
+    (knew : Clock) (e : DrawingError) : Type 0 where
   pub base : List Op
-  pub is_base : IsBase q.site seen h base
+  pub is_base : IsBase q.site knew h base
   pub refused : RefusesBase q.site q.after base fig drawing e
 
 -- why nothing is made of the drawing behind what it knew of h; want of memory may come with any
 abbrev pub RefusesBehind : TakeRequest → List Op → List ℕ → Drawn → Clock → DrawingError → Type 0
-RefusesBehind q h fig drawing seen e =
-    (e ≡ error.OutOfMemory) ⊎ RefusesBehindBase q h fig drawing seen e
+RefusesBehind q h fig drawing knew e =
+    (e ≡ error.OutOfMemory) ⊎ RefusesBehindBase q h fig drawing knew e
 
 -- what is told of a fault of the drawing
 abbrev pub told : DrawingError → TakeRunError
@@ -179,16 +179,16 @@ told error.Exhausted = refused.Exhausted
 told error.Differs = refused.Differs
 
 -- why a site refuses a drawing for what it knew
-abbrev pub RefusesSeen : ℕ → List Op → Clock → DrawingError → Type 0
-RefusesSeen s h seen (error.Absent i) = IsAbsent seen h i
-RefusesSeen s h seen (error.Older i j) = (drawing : Drawn) → HasNewer s i j h drawing seen
-RefusesSeen s h seen other = ⊥
+abbrev pub RefusesKnown : ℕ → List Op → Clock → DrawingError → Type 0
+RefusesKnown s h knew (error.Absent i) = IsAbsent knew h i
+RefusesKnown s h knew (error.Older i j) = (drawing : Drawn) → HasNewer s i j h drawing knew
+RefusesKnown s h knew other = ⊥
 
 -- of h, the operation a of site s came after the drawing, and knows one under the id i of another
 -- site, which the drawing did not know
-pub record IsNewerThan (s : ℕ) (seen : Clock) (h : List Op) (a : Op) (i : OpId) : Type 0 where
+pub record IsNewerThan (s : ℕ) (knew : Clock) (h : List Op) (a : Op) (i : OpId) : Type 0 where
   pub known : Op
-  pub newer : IsNewer s seen h a known
+  pub newer : IsNewer s knew h a known
   pub id : i ≡ known.id
 
 -- i is the last operation that the clock past counts of a site other than s, and known counts fewer

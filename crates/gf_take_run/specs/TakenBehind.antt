@@ -12,7 +12,7 @@ use Rattle.gf_edit.specs.Making.{written_lines}
 use Rattle.gf_take.specs.Bases.{AreRead}
 use Rattle.gf_take_run.specs.declared.request.TakeRequest.{TakeRequest}
 use Rattle.gf_take_run.specs.declared.taken.Taken.{Taken}
-use Rattle.gf_take_run.specs.SeenDrawing.{since_drawing}
+use Rattle.gf_take_run.specs.KnownHistory.{since_drawing}
 use Rattle.gf_take_run.specs.ShownText.{IsShownText}
 use Rattle.gf_take_run.specs.TakenText.{DenotesDrawing, TakesDrawing}
 use Rattle.gf_take_run.specs.TakeRun.{StaysWithin}
@@ -33,16 +33,16 @@ pub record IsWrittenText (named : Bool) (h new : List Op) (text : List ℕ) : Ty
 
 -- the site takes the new operations of the drawing behind what it knew of h, and they are written
 -- and told
-pub record TakesSo (q : TakeRequest) (h : List Op) (fig : List ℕ) (drawing : Drawn) (seen : Clock)
+pub record TakesSo (q : TakeRequest) (h : List Op) (fig : List ℕ) (drawing : Drawn) (knew : Clock)
     (new : List Op) (t : Answer Taken) : Type 0 where
-  pub taken : TakesDrawing q.site h fig drawing seen new
+  pub taken : TakesDrawing q.site h fig drawing knew new
   pub within : StaysWithin q.site q.after taken.base new
   pub text : IsWrittenText q.named h new t.text.items
   pub made : t.value.made ≡ made_of new
   pub changed : CountsObjects alters new t.value.changed
   pub hidden : CountsObjects hides new t.value.hidden
   pub drawn : CountsObjects creates new t.value.drawn
-  pub since : t.value.since ≡ since_drawing q.site seen h
+  pub since : t.value.since ≡ since_drawing q.site knew h
   pub thin : AreThinOf taken.base t.value.thin.items
 
 -- the known operations, which deliver the history, and the FIG text were read, and the site takes
@@ -51,6 +51,6 @@ pub record TakesBehind (q : TakeRequest) (known history : List Op) (fig : List �
     (t : Answer Taken) : Type 0 where
   pub read : AreRead q.site known history
   pub drawing : Drawn
-  pub seen : Clock
-  pub drawn : DenotesDrawing fig drawing seen
-  pub takes : TakesSo q history fig drawing seen new t
+  pub knew : Clock
+  pub drawn : DenotesDrawing fig drawing knew
+  pub takes : TakesSo q history fig drawing knew new t

@@ -17,7 +17,7 @@ use Rattle.gf_take.specs.Taking.{Takes}
 use Rattle.gf_take_run.specs.Parting.{IsParted}
 use Rattle.gf_take_run.specs.ChangedObjects.{MayChange}
 use Rattle.gf_take_run.specs.LeftObjects.{LeavesStanding}
-use Rattle.gf_take_run.specs.SeenDrawing.{AreThere, IsNewer}
+use Rattle.gf_take_run.specs.KnownHistory.{AreThere, IsNewer}
 
 -- the lines denote operations, which deliver the history, and none blocks site s
 pub record DenotesLines (s : ℕ) (lines : List ℕ) (history : List Op) : Type 0 where
@@ -27,21 +27,21 @@ pub record DenotesLines (s : ℕ) (lines : List ℕ) (history : List Op) : Type 
 
 -- the FIG text reads as the drawing, of at most 1,000 figures, and tells that it knew the
 -- operations that the clock counts
-pub record DenotesDrawing (fig : List ℕ) (drawing : Drawn) (seen : Clock) : Type 0 where
+pub record DenotesDrawing (fig : List ℕ) (drawing : Drawn) (knew : Clock) : Type 0 where
   pub reads : Reads fig drawing
   pub few : length drawing.figures ≤ MOST_VERSIONS
-  pub knows : TellsKnown fig seen
+  pub knows : TellsKnown fig knew
 
 -- site s makes the new operations behind the base of what the drawing knew of the history. All that
 -- the drawing knew is there, and no operation of the site knows more of others. Each change is of
 -- an object that the base shows, or that the text names, or creates one. An object that stands in
 -- the drawing gets nothing but layers. None is made where the base looks like the drawing
 pub record TakesDrawing (s : ℕ) (history : List Op) (fig : List ℕ) (drawing : Drawn)
-    (seen : Clock) (new : List Op) : Type 0 where
-  pub there : AreThere seen history
-  pub young : (a x : Op) → ¬ (IsNewer s seen history a x)
+    (knew : Clock) (new : List Op) : Type 0 where
+  pub there : AreThere knew history
+  pub young : (a x : Op) → ¬ (IsNewer s knew history a x)
   pub base : List Op
-  pub is_base : IsBase s seen history base
+  pub is_base : IsBase s knew history base
   pub changes : List Change
   pub takes : Takes s base changes new drawing
   pub may : All (MayChange base fig) changes
@@ -56,9 +56,9 @@ pub record DenotesTake (s : ℕ) (bytes : List ℕ) (new : List Op) : Type 0 whe
   pub history : List Op
   pub read : DenotesLines s lines history
   pub drawing : Drawn
-  pub seen : Clock
-  pub drawn : DenotesDrawing fig drawing seen
-  pub taken : TakesDrawing s history fig drawing seen new
+  pub knew : Clock
+  pub drawn : DenotesDrawing fig drawing knew
+  pub taken : TakesDrawing s history fig drawing knew new
 
 -- the lines of these bytes denote what the take read and what it made, in whatever order and
 -- however often

@@ -51,19 +51,19 @@ pub(crate) fn make_behind(
 ) -> Result<MadeBehind, DrawingError>
     requires site { IsSite request.site }
     requires number { taker.number ≡ request.site }
-    requires drawn { DenotesDrawing fig.now drawn.now.drawing drawn.now.seen }
+    requires drawn { DenotesDrawing fig.now drawn.now.drawing drawn.now.knew }
     requires named { AreNamed fig.now drawn.now.drawing drawn.now.names.items }
     requires places { AreNamesAt drawn.now.names.items drawn.now.places.entries }
     ensures ok { IfOk result
-        (MakesBehind request taker.ops fig.now drawn.now.drawing drawn.now.seen) }
+        (MakesBehind request taker.ops fig.now drawn.now.drawing drawn.now.knew) }
     ensures refused { IfErr result
-        (RefusesBehind request taker.ops fig.now drawn.now.drawing drawn.now.seen) }
+        (RefusesBehind request taker.ops fig.now drawn.now.drawing drawn.now.knew) }
 {
-    if is_whole_base(request.site, taker.history(), &drawn.seen) {
+    if is_whole_base(request.site, taker.history(), &drawn.knew) {
         let made = make_from(alloc, taker, fig, drawn, request.after)?;
         return Ok(shown_whole(alloc, made, request.named)?);
     }
-    let base = base_site(alloc, request.site, taker.history(), &drawn.seen)?;
+    let base = base_site(alloc, request.site, taker.history(), &drawn.knew)?;
     let apart = objects_apart(alloc, taker.history(), base.history())?;
     let (whole, kept) = taker.into_parts();
     let base = with_kept(whole.history(), kept, base, &apart);

@@ -40,7 +40,7 @@ pub(crate) fn make_from(
     drawn: &ReadDrawing,
     after: Option<u32>,
 ) -> Result<MadeFrom, DrawingError>
-    requires drawn { DenotesDrawing fig.now drawn.now.drawing drawn.now.seen }
+    requires drawn { DenotesDrawing fig.now drawn.now.drawing drawn.now.knew }
     requires named { AreNamed fig.now drawn.now.drawing drawn.now.names.items }
     requires places { AreNamesAt drawn.now.names.items drawn.now.places.entries }
     ensures ok { IfOk result (MakesFrom base.number after base.ops fig.now drawn.now.drawing) }
@@ -72,7 +72,7 @@ fn make_other(
     drawn: &ReadDrawing,
 ) -> Result<MadeFrom, DrawingError>
     requires listed { AreListed base.ops shown.versions }
-    requires drawn { DenotesDrawing fig.now drawn.now.drawing drawn.now.seen }
+    requires drawn { DenotesDrawing fig.now drawn.now.drawing drawn.now.knew }
     requires named { AreNamed fig.now drawn.now.drawing drawn.now.names.items }
     requires places { AreNamesAt drawn.now.names.items drawn.now.places.entries }
     ensures ok { IfOk result (MakesOther base.number base.ops fig.now drawn.now.drawing) }

@@ -57,7 +57,7 @@ pub(crate) fn make_planned(
     drawn: &ReadDrawing,
 ) -> Result<Option<Ranked<AnyShape>>, DrawingError>
     requires ranked { AreRanked making.old.site.ops shown.now }
-    requires drawn { DenotesDrawing fig.now drawn.now.drawing drawn.now.seen }
+    requires drawn { DenotesDrawing fig.now drawn.now.drawing drawn.now.knew }
     ensures made { (s : ℕ) (b : List Op) → IsMaking s b making.old
         → IfOk result (λ last. IsMaking s b making.new) }
     ensures listed { IfOk result (AreListedBehind making.old making.new) }
@@ -83,7 +83,7 @@ fn make_matched(
     drawn: &ReadDrawing,
 ) -> Result<Option<Ranked<AnyShape>>, DrawingError>
     requires ranked { AreRanked making.old.site.ops before.now }
-    requires drawn { DenotesDrawing fig.now drawn.now.drawing drawn.now.seen }
+    requires drawn { DenotesDrawing fig.now drawn.now.drawing drawn.now.knew }
     ensures made { (s : ℕ) (b : List Op) → IsMaking s b making.old
         → IfOk result (λ last. IsMaking s b making.new) }
     ensures listed { IfOk result (AreListedBehind making.old making.new) }
@@ -95,7 +95,7 @@ fn make_matched(
         making.site.history(),
         before,
         &drawn.targets,
-        &drawn.seen,
+        &drawn.knew,
     )?;
     if let Some(index) = first_beyond(&drawn.targets, &matching) {
         return Err(beyond(alloc, fig, &drawn.drawing, index));

@@ -85,12 +85,12 @@ pub(crate) struct ReadDrawing {
     /// For each object the indices of the names of its figures.
     pub(crate) places: BTreeMap<ObjectId, Positions>,
     pub(crate) targets: Vec<Target>,
-    pub(crate) seen: Clock,
+    pub(crate) knew: Clock,
 }
 
 /// The drawing that a FIG text reads as, with the names of its figures.
 pub(crate) fn read_drawing(alloc: Global, fig: &[u8]) -> Result<ReadDrawing, TakeRunError>
-    ensures ok { IfOk result (λ read. DenotesDrawing fig.now read.drawing read.seen) }
+    ensures ok { IfOk result (λ read. DenotesDrawing fig.now read.drawing read.knew) }
     ensures named { IfOk result (λ read. AreNamed fig.now read.drawing read.names.items) }
     ensures places { IfOk result (λ read. AreNamesAt read.names.items read.places.entries) }
     ensures refused { (q : TakeRequest) (known h : List Op) → AreRead q.site known h
@@ -105,7 +105,7 @@ pub(crate) fn read_drawing(alloc: Global, fig: &[u8]) -> Result<ReadDrawing, Tak
         return Err(TakeRunError::TooManyFigures);
     }
     let names = read_names(alloc, fig)?;
-    let Some(seen) = names.known else {
+    let Some(knew) = names.known else {
         return Err(TakeRunError::Unnamed);
     };
     let targets = targets_of(alloc, &drawing, &names.figures)?;
@@ -115,7 +115,7 @@ pub(crate) fn read_drawing(alloc: Global, fig: &[u8]) -> Result<ReadDrawing, Tak
         names: names.figures,
         places,
         targets,
-        seen,
+        knew,
     })
 }
 

@@ -22,9 +22,9 @@ ghost use Rattle.gf_replay.specs.Behind.{Divides};
 use crate::behind::make_behind;
 use crate::counting::numbers_of;
 use crate::drawing_error::DrawingError;
+use crate::knowing::{check_age, check_known, made_since};
 use crate::parting::{Parts, part};
 use crate::reading::{ReadDrawing, read_drawing, read_lines, taker_of};
-use crate::seeing::{check_age, check_known, made_since};
 use crate::{TakeRequest, TakeRunError, Taken};
 use gf_base::OutOfMemory;
 use gf_edit::{Made, push_line};
@@ -119,18 +119,18 @@ fn take_drawing(
 ) -> Result<TakenDrawing, DrawingError>
     requires site { IsSite request.site }
     requires number { taker.number ≡ request.site }
-    requires drawn { DenotesDrawing fig.now drawn.now.drawing drawn.now.seen }
+    requires drawn { DenotesDrawing fig.now drawn.now.drawing drawn.now.knew }
     requires named { AreNamed fig.now drawn.now.drawing drawn.now.names.items }
     requires places { AreNamesAt drawn.now.names.items drawn.now.places.entries }
     ensures ok { IfOk result (λ t. TakesSo request taker.ops fig.now drawn.now.drawing
-        drawn.now.seen t.ops.items t.answer) }
+        drawn.now.knew t.ops.items t.answer) }
     ensures site { IfOk result (λ t. t.site.ops ≡ taker.ops ++ t.ops.items) }
     ensures refused { IfErr result (RefusesDrawing request taker.ops fig.now
-        drawn.now.drawing drawn.now.seen) }
+        drawn.now.drawing drawn.now.knew) }
 {
-    check_known(taker.history(), request.site, &drawn.seen)?;
-    check_age(taker.history(), request.site, &drawn.seen)?;
-    let since = made_since(taker.history(), request.site, &drawn.seen);
+    check_known(taker.history(), request.site, &drawn.knew)?;
+    check_age(taker.history(), request.site, &drawn.knew)?;
+    let since = made_since(taker.history(), request.site, &drawn.knew);
     let made = make_behind(alloc, taker, fig, drawn, request)?;
     let numbers = numbers_of(alloc, &made.ops)?;
     let text = text_of(alloc, &made.ops, &made.text)?;

@@ -34,7 +34,7 @@ add-requires-clause-accepted c =
     subst (λ l. IsAccepted l c.in_ok-copy.field-0)
     (sym (ap (λ (x : SiteState). x.ops) c.loop-op.invariant))
     (subst (IsAccepted (filter (is_counted reach) (take i ops))) (sym c.in_ok-copy.ensures)
-    (item_accepted c.args.site c.args.seen.now ops valid reach c.reach-reach.ensures i a within
+    (item_accepted c.args.site c.args.known.now ops valid reach c.reach-reach.ensures i a within
     c.op-item.is run counted))
 
 pub loop-op-preserved : goal.loop-op-preserved
@@ -47,7 +47,7 @@ loop-op-preserved c =
     let within : i < length ops = search (rules, arith) in
     elim c.if-is_counted.branch [
       | then-is_counted+in_ok-copy+in_ok-add w ↦
-          let more = item_counted c.args.site c.args.seen.now ops valid reach c.reach-reach.ensures
+          let more = item_counted c.args.site c.args.known.now ops valid reach c.reach-reach.ensures
           i
           a within c.op-item.is (sym c.is_counted.ensures ∙ w.if-is_counted.true) in
           let grown : filter (is_counted reach) (take i ops) ++ w.in_ok-copy.field-0 ∷ []
@@ -59,7 +59,7 @@ loop-op-preserved c =
           c.loop-op.invariant
           ∙ (λ k. record { number = c.args.site; ops = grown k; held = [] })))
       | else-is_counted w ↦
-          let same = item_left c.args.site c.args.seen.now ops valid reach c.reach-reach.ensures i a
+          let same = item_left c.args.site c.args.known.now ops valid reach c.reach-reach.ensures i a
           within c.op-item.is (sym c.is_counted.ensures ∙ w.if-is_counted.false) in
           w.base-is ∙ (c.loop-op.invariant
           ∙ (λ k. record { number = c.args.site; ops = sym same k; held = [] }))
@@ -75,7 +75,7 @@ returns-clause-base c =
     let base : c.loop-op.base.ops ≡ filter (is_counted reach) ops =
     ap (λ (x : SiteState). x.ops) c.loop-op.invariant
     ∙ ap (filter (is_counted reach)) (take_all c.loop-op.op-index ops all) in
-    subst (λ b. IsBase c.args.site c.args.seen.now c.args.history.now.ops b) (sym base)
-    (subst (λ h. IsBase c.args.site c.args.seen.now h (filter (is_counted reach) ops))
+    subst (λ b. IsBase c.args.site c.args.known.now c.args.history.now.ops b) (sym base)
+    (subst (λ h. IsBase c.args.site c.args.known.now h (filter (is_counted reach) ops))
     c.ops-ops.ensures.ops
-    (counted_base c.args.site c.args.seen.now ops valid reach c.reach-reach.ensures run))
+    (counted_base c.args.site c.args.known.now ops valid reach c.reach-reach.ensures run))

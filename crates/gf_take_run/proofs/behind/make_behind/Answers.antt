@@ -41,7 +41,7 @@ joined-requires-clause-in_range c = λ a there.
 pub joined-requires-clause-accepted : goal.joined-requires-clause-accepted
 joined-requires-clause-accepted c =
     let s = c.args.request.site in
-    let seen = c.args.drawn.now.seen in
+    let knew = c.args.drawn.now.knew in
     let h = c.args.taker.ops in
     let base = c.with_kept-base.result in
     let from = c.in_ok-made-2.ensures.ok.taken in
@@ -49,13 +49,13 @@ joined-requires-clause-accepted c =
     let number = subst (λ (x : SiteState). x.number ≡ s) (sym c.with_kept-base.ensures)
     c.in_ok-base.ensures.number in
     let made = subst (λ i. MakesEach i base.ops from.changes new) number from.takes.makes in
-    let is_base = subst (λ (x : SiteState). IsBase s seen h x.ops) (sym c.with_kept-base.ensures)
-    (subst (λ (l : List Op). IsBase s seen l c.in_ok-base.base.ops) c.history-2.ensures.ops
+    let is_base = subst (λ (x : SiteState). IsBase s knew h x.ops) (sym c.with_kept-base.ensures)
+    (subst (λ (l : List Op). IsBase s knew l c.in_ok-base.base.ops) c.history-2.ensures.ops
     c.in_ok-base.ensures.base) in
     subst (λ (x : SiteState). AreAccepted (x.ops ++ c.deref-2.result.now))
     (sym c.into_parts-whole.ensures.site)
     (subst (λ (os : List Op). AreAccepted (h ++ os)) (sym c.deref-2.ensures.value)
-    (makes_accepted s seen h base.ops from.changes new c.history-2.ensures.valid
+    (makes_accepted s knew h base.ops from.changes new c.history-2.ensures.valid
     c.history-2.ensures.accepted is_base made))
 
 pub joined-requires-clause-same : goal.joined-requires-clause-same

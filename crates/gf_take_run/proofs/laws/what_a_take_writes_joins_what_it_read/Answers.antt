@@ -6,7 +6,7 @@ returns c = λ s bytes others new j.
     record {
       ops = j.ops;
       lines = j.lines;
-      delivers = takes_join s j.take.seen j.take.read.ops j.take.history j.take.taken.base new j.ops
+      delivers = takes_join s j.take.knew j.take.read.ops j.take.history j.take.taken.base new j.ops
           (record {
             read = j.take.read.read;
             base = j.take.taken.is_base;

@@ -27,8 +27,8 @@ returns-in_err-take_drawing-clause-refused c = λ known divided.
     let d = c.in_ok-drawn.drawn in
     let fault = c.in_err-take_drawing.field-0.0 in
     rw (p.1, p.2) (refused_behind c.args.request known c.args.fig.now c.in_ok-taker.taker.ops
-    (c.in_ok-taker.ensures.ok known divided) d.drawing d.seen c.in_ok-drawn.ensures.ok fault
-    (subst (λ (x : SiteState). RefusesDrawing c.args.request x.ops c.args.fig.now d.drawing d.seen fault)
+    (c.in_ok-taker.ensures.ok known divided) d.drawing d.knew c.in_ok-drawn.ensures.ok fault
+    (subst (λ (x : SiteState). RefusesDrawing c.args.request x.ops c.args.fig.now d.drawing d.knew fault)
     c.new-taker.ensures c.in_err-take_drawing.ensures.refused))
 
 pub returns-clause-ok : goal.returns-clause-ok
@@ -40,6 +40,6 @@ returns-clause-ok c = λ known divided.
     c.in_ok-taker.ensures.same in
     subst (λ (h : List Op). TakesBehind c.args.request known h c.args.fig.now t.ops.items t.answer) same
     (taken_behind c.args.request known c.args.fig.now taker.ops (c.in_ok-taker.ensures.ok known divided)
-    d.drawing d.seen c.in_ok-drawn.ensures.ok t.ops.items t.answer
-    (subst (λ (x : SiteState). TakesSo c.args.request x.ops c.args.fig.now d.drawing d.seen t.ops.items
+    d.drawing d.knew c.in_ok-drawn.ensures.ok t.ops.items t.answer
+    (subst (λ (x : SiteState). TakesSo c.args.request x.ops c.args.fig.now d.drawing d.knew t.ops.items
     t.answer) c.new-taker.ensures c.in_ok-take_drawing.ensures.ok))

@@ -28,10 +28,10 @@ returns-in_err-taken-clause-refused g c =
     let d = c.in_ok-drawn.drawn in
     let refused = rw c.deref-2.ensures.value at c.in_err-taken.ensures.refused in
     let behind = subst (λ (x : SiteState). RefusesDrawing c.args.request x.ops c.args.parts.fig.items
-    d.drawing d.seen c.in_err-taken.field-0.0) c.of-taker.ensures refused in
+    d.drawing d.knew c.in_err-taken.field-0.0) c.of-taker.ensures refused in
     rw (p.1, p.2) (lines_refused c.args.request c.args.parts.lines.items c.args.parts.fig.items r.ops
     r.denoted _ (refused_behind c.args.request r.ops c.args.parts.fig.items
-    c.in_ok-taker.taker.ops r.read d.drawing d.seen
+    c.in_ok-taker.taker.ops r.read d.drawing d.knew
     (rw c.deref.ensures.value at c.in_ok-drawn.ensures.ok) c.in_err-taken.field-0.0 behind))
 
 pub take_drawing-requires-clause-named : goal.take_drawing-requires-clause-named
@@ -50,8 +50,8 @@ returns-clause-ok g c =
       history = c.in_ok-taker.taker.ops;
       new = taken.ops.items;
       takes = taken_behind c.args.request r.ops c.args.parts.fig.items c.in_ok-taker.taker.ops r.read
-          d.drawing d.seen (rw c.deref.ensures.value at c.in_ok-drawn.ensures.ok) taken.ops.items
+          d.drawing d.knew (rw c.deref.ensures.value at c.in_ok-drawn.ensures.ok) taken.ops.items
           taken.answer (subst (λ (x : SiteState). TakesSo c.args.request x.ops
-          c.args.parts.fig.items d.drawing d.seen taken.ops.items taken.answer) c.of-taker.ensures
+          c.args.parts.fig.items d.drawing d.knew taken.ops.items taken.answer) c.of-taker.ensures
           takes);
     }

@@ -14,39 +14,39 @@ use Rattle.gf_ops.proofs.CountedLemmas.{number_counted}
 use Rattle.gf_ops.proofs.HistoryLemmas.{site_in_range}
 use Rattle.gf_take.specs.Reaching.{AreReached}
 use Rattle.gf_take.proofs.ReachLemmas.{counted_known, known_counted}
-use Rattle.gf_take_run.specs.SeenDrawing.{IsNewer, WasKnown}
+use Rattle.gf_take_run.specs.KnownHistory.{IsNewer, WasKnown}
 use Rattle.gf_take_run.specs.TakeSteps.{IsBeyond, IsNewerThan}
 
-module _ (s : ℕ) (seen : Clock) (h : List Op) (valid : IsValid h) (known : Clock)
-    (reached : AreReached 0 seen h known) where
+module _ (s : ℕ) (knew : Clock) (h : List Op) (valid : IsValid h) (known : Clock)
+    (reached : AreReached 0 knew h known) where
   site_of : (a : Op) → Contains h a → IsSite a.id.site
   site_of a m = site_in_range a (valid.in_range a m)
 
   -- what the drawing knew is counted
-  was_counted : (x : Op) → Contains h x → WasKnown seen h x → x.id.seq ≤ entry known x.id.site
+  was_counted : (x : Op) → Contains h x → WasKnown knew h x → x.id.seq ≤ entry known x.id.site
   was_counted x m w =
-      leb-true x.id.seq (entry known x.id.site) (known_counted 0 seen h valid known reached x
+      leb-true x.id.seq (entry known x.id.site) (known_counted 0 knew h valid known reached x
       (record {
         contained = m;
-        seen = w.counted;
+        counted = w.counted;
         there = w.contained;
-        is_seen = inl w.within;
+        is_own_or_counted = inl w.within;
         known = w.known;
       }))
 
   -- what is counted the drawing knew
-  counted_was : (x : Op) → Contains h x → x.id.seq ≤ entry known x.id.site → WasKnown seen h x
+  counted_was : (x : Op) → Contains h x → x.id.seq ≤ entry known x.id.site → WasKnown knew h x
   counted_was x m l =
-      let k = counted_known 0 seen h valid known reached x m
+      let k = counted_known 0 knew h valid known reached x m
       (le-leb x.id.seq (entry known x.id.site) l) in
-      elim k.is_seen [
-        | inl w ↦ record { counted = k.seen; contained = k.there; within = w; known = k.known }
-        | inr z ↦ let i = site_of k.seen k.there in let f = i.0 in absurd (omega (arith, z, f))
+      elim k.is_own_or_counted [
+        | inl w ↦ record { counted = k.counted; contained = k.there; within = w; known = k.known }
+        | inr z ↦ let i = site_of k.counted k.there in let f = i.0 in absurd (omega (arith, z, f))
       ]
 
   -- an operation of the site behind the drawing that knows more of another site is newer
-  pub beyond_newer : (a : Op) → Contains h a → a.id.site ≡ s → entry seen s < a.id.seq → (i : OpId)
-      → IsBeyond s a.past known i → IsNewerThan s seen h a i
+  pub beyond_newer : (a : Op) → Contains h a → a.id.site ≡ s → entry knew s < a.id.seq → (i : OpId)
+      → IsBeyond s a.past known i → IsNewerThan s knew h a i
   beyond_newer a m own after i b =
       let fewer = b.fewer in
       let last = b.last in
@@ -78,7 +78,7 @@ module _ (s : ℕ) (seen : Clock) (h : List Op) (valid : IsValid h) (known : Clo
 
   -- where it knows no more of others, it is not newer
   pub within_not_newer : (a : Op) → ((t : ℕ) → IsSite t → t ≢ s → entry a.past t ≤ entry known t)
-      → (x : Op) → ¬ (IsNewer s seen h a x)
+      → (x : Op) → ¬ (IsNewer s knew h a x)
   within_not_newer a l x n =
       let w = l x.id.site (site_of x n.there) n.other in
       n.unknown (counted_was x n.there (below w))
@@ -87,9 +87,9 @@ module _ (s : ℕ) (seen : Clock) (h : List Op) (valid : IsValid h) (known : Clo
       below w = let k = n.knows in omega (arith, k, w)
 
 -- where the drawing knew all operations of the site, none is newer
-pub none_newer : (s : ℕ) (seen : Clock) (h : List Op) → IsValid h → count_of h s ≤ entry seen s
-    → (a x : Op) → ¬ (IsNewer s seen h a x)
-none_newer s seen h valid all a x n =
+pub none_newer : (s : ℕ) (knew : Clock) (h : List Op) → IsValid h → count_of h s ≤ entry knew s
+    → (a x : Op) → ¬ (IsNewer s knew h a x)
+none_newer s knew h valid all a x n =
     let own : a.id.seq ≤ count_of h s = subst (λ t. a.id.seq ≤ count_of h t) n.own
     (number_counted h valid a n.contained) in
     let after = n.after in

@@ -1,6 +1,6 @@
 use Rattle.std.proofs.Common.{◌≢◌, ℕ, ◌<◌, ◌≤◌}
 use Rattle.gf_ops.specs.OperationOrder.{entry}
-use Rattle.gf_take_run.proofs.seeing.first_beyond.Given as goal
+use Rattle.gf_take_run.proofs.knowing.first_beyond.Given as goal
 
 -- the other sites so far are counted
 abbrev pub invariant-loop-other : goal.invariant-loop-other

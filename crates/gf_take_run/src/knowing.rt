@@ -1,12 +1,12 @@
-//! What a drawing saw of a history.
+//! What a drawing knew of a history.
 
 ghost use Rattle.std.specs.Prelude.{◌≡◌, ◌≢◌, ◌≤◌, ℕ, Contains, IfErr, IfSome, IfNone, OnOk};
 ghost use Rattle.gf_ops.specs.declared.op.Op.{Op};
 ghost use Rattle.gf_ops.specs.ValidHistory.{IsValid};
 ghost use Rattle.gf_ops.specs.OperationOrder.{IsSite, entry};
-ghost use Rattle.gf_take_run.specs.SeenDrawing.{AreThere, IsNewer, since_drawing};
+ghost use Rattle.gf_take_run.specs.KnownHistory.{AreThere, IsNewer, since_drawing};
 ghost use Rattle.gf_take.specs.Reaching.{AreReached};
-ghost use Rattle.gf_take_run.specs.TakeSteps.{IsBeyond, IsNewerThan, RefusesSeen};
+ghost use Rattle.gf_take_run.specs.TakeSteps.{IsBeyond, IsNewerThan, RefusesKnown};
 
 use crate::drawing_error::DrawingError;
 use gf_edit::Made;
@@ -14,12 +14,12 @@ use gf_ops::{Clock, History, Op, OpId};
 use gf_take::reach;
 
 /// Refuses a drawing that knew an operation which the history lacks.
-pub(crate) fn check_known(history: &History, site: u8, seen: &Clock) -> Result<(), DrawingError>
-    ensures ok { OnOk result (AreThere seen.now history.now.ops) }
-    ensures err { IfErr result (RefusesSeen site history.now.ops seen.now) }
+pub(crate) fn check_known(history: &History, site: u8, knew: &Clock) -> Result<(), DrawingError>
+    ensures ok { OnOk result (AreThere knew.now history.now.ops) }
+    ensures err { IfErr result (RefusesKnown site history.now.ops knew.now) }
 {
     for other in 1..9 {
-        let last = seen.entry(other);
+        let last = knew.entry(other);
         if history.count(other) < last {
             return Err(DrawingError::Absent(OpId {
                 site: other,
@@ -32,19 +32,19 @@ pub(crate) fn check_known(history: &History, site: u8, seen: &Clock) -> Result<(
 
 /// Refuses a drawing that is older than an operation of the site, where this knows what others made
 /// and the drawing did not know.
-pub(crate) fn check_age(history: &History, site: u8, seen: &Clock) -> Result<(), DrawingError>
-    ensures ok { OnOk result ((a x : Op) → ¬ (IsNewer site seen.now history.now.ops a x)) }
-    ensures err { IfErr result (RefusesSeen site history.now.ops seen.now) }
+pub(crate) fn check_age(history: &History, site: u8, knew: &Clock) -> Result<(), DrawingError>
+    ensures ok { OnOk result ((a x : Op) → ¬ (IsNewer site knew.now history.now.ops a x)) }
+    ensures err { IfErr result (RefusesKnown site history.now.ops knew.now) }
 {
-    if history.count(site) <= seen.entry(site) {
+    if history.count(site) <= knew.entry(site) {
         // All operations of the site are known to the drawing, and none of them is newer.
         history.recall_valid();
         return Ok(());
     }
     // Of site 0 there is no operation: these are the ones that the drawing knew.
-    let known = reach(0, seen, history.ops());
+    let known = reach(0, knew, history.ops());
     for op in history.ops() {
-        if let Some(id) = newer(history, site, seen, op, &known) {
+        if let Some(id) = newer(history, site, knew, op, &known) {
             return Err(DrawingError::Older(op.id, id));
         }
     }
@@ -53,14 +53,14 @@ pub(crate) fn check_age(history: &History, site: u8, seen: &Clock) -> Result<(),
 
 /// Another site's operation that this one knows and the drawing did not. None, where this one is of
 /// another site, or no newer than the drawing.
-fn newer(history: &History, site: u8, seen: &Clock, op: &Op, known: &Clock) -> Option<OpId>
+fn newer(history: &History, site: u8, knew: &Clock, op: &Op, known: &Clock) -> Option<OpId>
     requires contained { Contains history.now.ops op.now }
     requires valid { IsValid history.now.ops }
-    requires reached { AreReached 0 seen.now history.now.ops known.now }
-    ensures some { IfSome result (IsNewerThan site seen.now history.now.ops op.now) }
-    ensures none { IfNone result ((x : Op) → ¬ (IsNewer site seen.now history.now.ops op.now x)) }
+    requires reached { AreReached 0 knew.now history.now.ops known.now }
+    ensures some { IfSome result (IsNewerThan site knew.now history.now.ops op.now) }
+    ensures none { IfNone result ((x : Op) → ¬ (IsNewer site knew.now history.now.ops op.now x)) }
 {
-    if op.id.site != site || op.id.seq <= seen.entry(site) {
+    if op.id.site != site || op.id.seq <= knew.entry(site) {
         return None;
     }
     first_beyond(site, &op.past, known)
@@ -82,11 +82,11 @@ fn first_beyond(site: u8, past: &Clock, known: &Clock) -> Option<OpId>
 }
 
 /// The first and the last operation of the site behind what the drawing knew, if there are any.
-pub(crate) fn made_since(history: &History, site: u8, seen: &Clock) -> Option<Made>
+pub(crate) fn made_since(history: &History, site: u8, knew: &Clock) -> Option<Made>
     requires { IsSite site }
-    ensures { result ≡ since_drawing site seen.now history.now.ops }
+    ensures { result ≡ since_drawing site knew.now history.now.ops }
 {
-    let known = seen.entry(site);
+    let known = knew.entry(site);
     let last = history.count(site);
     if last <= known {
         return None;
