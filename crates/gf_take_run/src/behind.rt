@@ -44,28 +44,28 @@ pub(crate) struct MadeBehind {
 /// goes to the base and back, but for the objects on which the two differ.
 pub(crate) fn make_behind(
     alloc: Global,
-    taker: KeptSite,
+    site: KeptSite,
     fig: &[u8],
     drawn: &ReadDrawing,
     request: TakeRequest,
 ) -> Result<MadeBehind, DrawingError>
     requires site { IsSite request.site }
-    requires number { taker.number ≡ request.site }
+    requires number { site.number ≡ request.site }
     requires drawn { DenotesDrawing fig.now drawn.now.drawing drawn.now.knew }
     requires named { AreNamed fig.now drawn.now.drawing drawn.now.names.items }
     requires places { AreNamesAt drawn.now.names.items drawn.now.places.entries }
     ensures ok { IfOk result
-        (MakesBehind request taker.ops fig.now drawn.now.drawing drawn.now.knew) }
+        (MakesBehind request site.ops fig.now drawn.now.drawing drawn.now.knew) }
     ensures refused { IfErr result
-        (RefusesBehind request taker.ops fig.now drawn.now.drawing drawn.now.knew) }
+        (RefusesBehind request site.ops fig.now drawn.now.drawing drawn.now.knew) }
 {
-    if is_whole_base(request.site, taker.history(), &drawn.knew) {
-        let made = make_from(alloc, taker, fig, drawn, request.after)?;
+    if is_whole_base(request.site, site.history(), &drawn.knew) {
+        let made = make_from(alloc, site, fig, drawn, request.after)?;
         return Ok(shown_whole(alloc, made, request.named)?);
     }
-    let base = base_site(alloc, request.site, taker.history(), &drawn.knew)?;
-    let apart = objects_apart(alloc, taker.history(), base.history())?;
-    let (whole, kept) = taker.into_parts();
+    let base = base_site(alloc, request.site, site.history(), &drawn.knew)?;
+    let apart = objects_apart(alloc, site.history(), base.history())?;
+    let (whole, kept) = site.into_parts();
     let base = with_kept(whole.history(), kept, base, &apart);
     let made = make_from(alloc, base, fig, drawn, request.after)?;
     let mut site = joined(whole, made.site, &made.ops, &apart)?;

@@ -52,23 +52,23 @@ pub(crate) fn read_lines<T: Threads + Sync>(
         Ok(replica) => replica,
         Err(fault) => return Err(TakeRunError::Run(StudioError::from(fault))),
     };
-    taker_of(alloc, replica, request.site)
+    site_of(alloc, replica, request.site)
 }
 
 /// The site that has what a replica has, where nothing that waits there blocks it.
-pub(crate) fn taker_of(alloc: Global, replica: Replica, site: u8) -> Result<Site, TakeRunError>
-    requires site { IsSite site }
+pub(crate) fn site_of(alloc: Global, replica: Replica, number: u8) -> Result<Site, TakeRunError>
+    requires site { IsSite number }
     ensures ok { (known : List Op) → Divides known replica.ops replica.held
-        → IfOk result (λ x. AreRead site known x.ops) }
-    ensures same { IfOk result (λ x. x ≡ at_site site replica) }
-    ensures refused { (q : TakeRequest) (known : List Op) (fig : List ℕ) → q.site ≡ site
+        → IfOk result (λ x. AreRead number known x.ops) }
+    ensures same { IfOk result (λ x. x ≡ at_site number replica) }
+    ensures refused { (q : TakeRequest) (known : List Op) (fig : List ℕ) → q.site ≡ number
         → Divides known replica.ops replica.held → IfErr result (RefusesFigText q known fig) }
     ensures between { IfErr result (λ e. IfSome (of_take e) IsBetween) }
 {
     replica.recall_state();
-    let taker = Site::with_replica(alloc, site, replica);
-    match check_waiting(alloc, &taker) {
-        Ok(()) => Ok(taker),
+    let site = Site::with_replica(alloc, number, replica);
+    match check_waiting(alloc, &site) {
+        Ok(()) => Ok(site),
         Err(EditError::Waits(id, other)) => Err(TakeRunError::Waits(id, other)),
         Err(EditError::Run(fault)) => Err(TakeRunError::Run(fault)),
         Err(EditError::Refused(..)) => unreachable!(),

@@ -24,7 +24,7 @@ use crate::counting::numbers_of;
 use crate::drawing_error::DrawingError;
 use crate::knowing::{check_age, check_known, made_since};
 use crate::parting::{Parts, part};
-use crate::reading::{ReadDrawing, read_drawing, read_lines, taker_of};
+use crate::reading::{ReadDrawing, read_drawing, read_lines, site_of};
 use crate::{TakeRequest, TakeRunError, Taken};
 use gf_base::OutOfMemory;
 use gf_edit::{Made, push_line};
@@ -70,10 +70,10 @@ fn take_parts<T: Threads + Sync>(
     ensures refused { IfErr result (RefusesParts request parts.lines.items parts.fig.items) }
     ensures between { IfErr result (λ e. IfSome (of_take e) IsBetween) }
 {
-    let taker = read_lines(rt, alloc, parts.lines, request, workers)?;
+    let site = read_lines(rt, alloc, parts.lines, request, workers)?;
     let drawn = read_drawing(alloc, &parts.fig)?;
-    let taker = KeptSite::of(alloc, taker);
-    let taken = take_drawing(alloc, taker, &parts.fig, &drawn, request)?;
+    let site = KeptSite::of(alloc, site);
+    let taken = take_drawing(alloc, site, &parts.fig, &drawn, request)?;
     Ok(taken.answer)
 }
 
@@ -94,10 +94,10 @@ pub fn take_behind(
     ensures refused { (known : List Op) → Divides known replica.ops replica.held
         → IfErr result (RefusesFigText request known fig.now) }
 {
-    let taker = taker_of(alloc, replica, request.site)?;
+    let site = site_of(alloc, replica, request.site)?;
     let drawn = read_drawing(alloc, fig)?;
-    let taker = KeptSite::new(taker, kept);
-    Ok(take_drawing(alloc, taker, fig, &drawn, request)?)
+    let site = KeptSite::new(site, kept);
+    Ok(take_drawing(alloc, site, fig, &drawn, request)?)
 }
 
 /// What a site took of a drawing: the new operations, their lines with what is told of them, and
@@ -112,26 +112,26 @@ pub struct TakenDrawing {
 /// What a site takes of a drawing.
 fn take_drawing(
     alloc: Global,
-    taker: KeptSite,
+    site: KeptSite,
     fig: &[u8],
     drawn: &ReadDrawing,
     request: TakeRequest,
 ) -> Result<TakenDrawing, DrawingError>
     requires site { IsSite request.site }
-    requires number { taker.number ≡ request.site }
+    requires number { site.number ≡ request.site }
     requires drawn { DenotesDrawing fig.now drawn.now.drawing drawn.now.knew }
     requires named { AreNamed fig.now drawn.now.drawing drawn.now.names.items }
     requires places { AreNamesAt drawn.now.names.items drawn.now.places.entries }
-    ensures ok { IfOk result (λ t. TakesSo request taker.ops fig.now drawn.now.drawing
+    ensures ok { IfOk result (λ t. TakesSo request site.ops fig.now drawn.now.drawing
         drawn.now.knew t.ops.items t.answer) }
-    ensures site { IfOk result (λ t. t.site.ops ≡ taker.ops ++ t.ops.items) }
-    ensures refused { IfErr result (RefusesDrawing request taker.ops fig.now
+    ensures site { IfOk result (λ t. t.site.ops ≡ site.ops ++ t.ops.items) }
+    ensures refused { IfErr result (RefusesDrawing request site.ops fig.now
         drawn.now.drawing drawn.now.knew) }
 {
-    check_known(taker.history(), request.site, &drawn.knew)?;
-    check_age(taker.history(), request.site, &drawn.knew)?;
-    let since = made_since(taker.history(), request.site, &drawn.knew);
-    let made = make_behind(alloc, taker, fig, drawn, request)?;
+    check_known(site.history(), request.site, &drawn.knew)?;
+    check_age(site.history(), request.site, &drawn.knew)?;
+    let since = made_since(site.history(), request.site, &drawn.knew);
+    let made = make_behind(alloc, site, fig, drawn, request)?;
     let numbers = numbers_of(alloc, &made.ops)?;
     let text = text_of(alloc, &made.ops, &made.text)?;
     let taken = Taken {

@@ -42,7 +42,7 @@ pub joined-requires-clause-accepted : goal.joined-requires-clause-accepted
 joined-requires-clause-accepted c =
     let s = c.args.request.site in
     let knew = c.args.drawn.now.knew in
-    let h = c.args.taker.ops in
+    let h = c.args.site.ops in
     let base = c.with_kept-base.result in
     let from = c.in_ok-made-2.ensures.ok.taken in
     let new = c.in_ok-made-2.made.ops.items in
@@ -60,7 +60,7 @@ joined-requires-clause-accepted c =
 
 pub joined-requires-clause-same : goal.joined-requires-clause-same
 joined-requires-clause-same c =
-    let h = c.args.taker.ops in
+    let h = c.args.site.ops in
     let base = c.in_ok-base.base.ops in
     let made = c.in_ok-made-2.made in
     let new = made.ops.items in

@@ -22,8 +22,8 @@ returns-in_err-made-clause-refused c =
     let there = subst (AreThere knew) c.history.ensures.ops c.in_ok-check_known.ensures.ok in
     let young = subst (λ (h : List Op). (a x : Op) → ¬ (IsNewer q.site knew h a x))
     c.history-2.ensures.ops c.in_ok-check_age.ensures.ok in
-    rw p.1 (behind_refused q c.args.taker.ops fig d knew p.0 there young
-    (subst (RefusesBehind q c.args.taker.ops fig d knew) (sym p.2) c.in_err-made.ensures.refused))
+    rw p.1 (behind_refused q c.args.site.ops fig d knew p.0 there young
+    (subst (RefusesBehind q c.args.site.ops fig d knew) (sym p.2) c.in_err-made.ensures.refused))
 
 pub text_of-requires : goal.text_of-requires
 text_of-requires c = λ a m.
@@ -35,7 +35,7 @@ text_of-requires c = λ a m.
 pub returns-clause-ok : goal.returns-clause-ok
 returns-clause-ok c =
     let q = c.args.request in
-    let h = c.args.taker.ops in
+    let h = c.args.site.ops in
     let knew = c.args.drawn.now.knew in
     let made = c.in_ok-made.made in
     let new = made.ops.items in
