@@ -31,9 +31,9 @@ use Rattle.gf_classes.specs.Direct.{both_direct, direct_at, class_at, place, Are
 use Rattle.gf_classes.specs.Hiding.{hiding_site_of, hiding_site_at}
 use Rattle.gf_classes.specs.Setters.{AreSetters, fingerprints}
 use Rattle.gf_classes.specs.SameValues.{Entries, IsIndex}
-use Rattle.gf_classes.specs.Rivals.{IsOutline}
+use Rattle.gf_classes.specs.Rivals.{AreRivalRanks}
 use Rattle.gf_classes.specs.declared.fingerprint.Fingerprint.{Fingerprint}
-use Rattle.gf_classes.specs.declared.outlines.Outline.{Outline}
+use Rattle.gf_classes.specs.declared.rival_ranks.RivalRanks.{RivalRanks}
 use Rattle.gf_classes.specs.Kinds.{IsKind, IsFirst, Fits, AreKinds}
 use Rattle.gf_classes.specs.Kinds.{AreRowsOf, ArePut}
 use Rattle.gf_classes.proofs.SetterLemmas.{one_op, object_at}
@@ -95,13 +95,13 @@ module _ (h : List Op) (valid : IsValid h) (o : ObjectId) (us : List ℕ)
     (ks : List Kind) (cs : List (Option ℕ)) (kinds : AreKinds h ss (length ss) ks cs)
     (rs : List (List ℕ)) (rows : AreRowsOf ks (length ks) rs)
     (cl : List (Option ℕ)) (put : ArePut ss cs (length ss) (length us) cl) where
-  -- q is a rank of the outline, and its fingerprint is another
+  -- q is one of the ranks, and its fingerprint is another
   abbrev Told : List ℕ → Option Fingerprint → ℕ → Fingerprint → Type 0
   Told d f q p = Contains d q × (f ≢ Some p)
 
   -- setters conflict where the rank of one is a rival of the other
   rival_is : (x y : Setter) (q : ℕ) (d : List ℕ) (f : Option Fingerprint) → slice_get ss q ≡ Some y
-      → IsOutline h ss x d f
+      → AreRivalRanks h ss x d f
       → Told d f q y.fingerprint ↔ (direct_at h x.position y.position ≡ true)
   rival_is x y q d f at exact = (
     λ c.
@@ -118,11 +118,11 @@ module _ (h : List Op) (valid : IsValid h) (o : ObjectId) (us : List ℕ)
 
   -- the first member of a class conflicts with that of another where this is in its row
   first_is : (d e : Kind) (x : IsFirst h ss (length ss) d) (y : IsFirst h ss (length ss) e)
-      → Told d.outline.ranks d.outline.except e.first e.fingerprint
+      → Told d.rival_ranks.ranks d.rival_ranks.except e.first e.fingerprint
       ↔ (direct_at h x.setter.position y.setter.position ≡ true)
-  first_is d e x y = subst (λ p. Told d.outline.ranks d.outline.except e.first p
+  first_is d e x y = subst (λ p. Told d.rival_ranks.ranks d.rival_ranks.except e.first p
       ↔ (direct_at h x.setter.position y.setter.position ≡ true)) (sym y.fingerprint)
-      (rival_is x.setter y.setter e.first d.outline.ranks d.outline.except y.at x.rivals)
+      (rival_is x.setter y.setter e.first d.rival_ranks.ranks d.rival_ranks.except y.at x.rivals)
 
   turned : (x y : Setter) → direct_at h x.position y.position ≡ true
       → direct_at h y.position x.position ≡ true
@@ -132,7 +132,7 @@ module _ (h : List Op) (valid : IsValid h) (o : ObjectId) (us : List ℕ)
 
   row_told : (a b : ℕ) → conflict rs a b ≡ true
       → (d : Kind) × (e : Kind) × (slice_get ks a ≡ Some d) × (slice_get ks b ≡ Some e)
-      × Told d.outline.ranks d.outline.except e.first e.fingerprint
+      × Told d.rival_ranks.ranks d.rival_ranks.except e.first e.fingerprint
   row_told a b t =
       let c = from_list (row rs a) b t in
       elim (cases_lt a (length ks)) [
@@ -149,7 +149,7 @@ module _ (h : List Op) (valid : IsValid h) (o : ObjectId) (us : List ℕ)
       ]
 
   row_from : (a b : ℕ) (d e : Kind) → slice_get ks a ≡ Some d → slice_get ks b ≡ Some e
-      → Told d.outline.ranks d.outline.except e.first e.fingerprint → conflict rs a b ≡ true
+      → Told d.rival_ranks.ranks d.rival_ranks.except e.first e.fingerprint → conflict rs a b ≡ true
   row_from a b d e i j c =
       let w = rows.each a d (slice_get_within ks a d i) i in
       in_list (row rs a) b (subst (λ z. Contains z b)
@@ -176,7 +176,7 @@ module _ (h : List Op) (valid : IsValid h) (o : ObjectId) (us : List ℕ)
           let x = kinds.firsts a w.0 w.2 in
           let same : w.1 ≡ w.0 = one_value ks a w.1 w.0 w.3 w.2 in
           let y = (first_is w.0 w.0 x x).0 (subst (λ (z : Kind).
-          Told w.0.outline.ranks w.0.outline.except z.first z.fingerprint) same w.4) in
+          Told w.0.rival_ranks.ranks w.0.rival_ranks.except z.first z.fingerprint) same w.4) in
           absurd (let z = both_alone (slice_get h x.setter.position) in cc)
       | inr f ↦ f
     ];
@@ -190,9 +190,9 @@ module _ (h : List Op) (valid : IsValid h) (o : ObjectId) (us : List ℕ)
     setter : Setter
     at : slice_get ss rank ≡ Some setter
     index : setter.index ≡ i
-    outline : Outline
-    exact : IsOutline h ss setter outline.ranks outline.except
-    kind : IsKind ks k setter.hiding outline
+    rival_ranks : RivalRanks
+    exact : AreRivalRanks h ss setter rival_ranks.ranks rival_ranks.except
+    kind : IsKind ks k setter.hiding rival_ranks
 
   member : (i k : ℕ) → class_at (record { classes = cl; rows = rs }) i ≡ Some k → Member i k
   member i k t =
@@ -205,7 +205,7 @@ module _ (h : List Op) (valid : IsValid h) (o : ObjectId) (us : List ℕ)
         setter = p.setter;
         at = p.at;
         index = p.index;
-        outline = fits.0;
+        rival_ranks = fits.0;
         exact = fits.1;
         kind = fits.2;
       }
@@ -222,12 +222,12 @@ module _ (h : List Op) (valid : IsValid h) (o : ObjectId) (us : List ℕ)
   as_first i k x y q at =
       let d = x.kind.kind in
       let a = kinds.firsts k d x.kind.at in
-      let own = rival_is x.setter y q x.outline.ranks x.outline.except at x.exact in
-      let first = rival_is a.setter y q d.outline.ranks d.outline.except at a.rivals in
-      let there : Told d.outline.ranks d.outline.except q y.fingerprint
-      ≡ Told x.outline.ranks x.outline.except q y.fingerprint =
-      ap (λ z. Told z d.outline.except q y.fingerprint) x.kind.ranks
-      ∙ ap (λ z. Told x.outline.ranks z q y.fingerprint) x.kind.except in (
+      let own = rival_is x.setter y q x.rival_ranks.ranks x.rival_ranks.except at x.exact in
+      let first = rival_is a.setter y q d.rival_ranks.ranks d.rival_ranks.except at a.rivals in
+      let there : Told d.rival_ranks.ranks d.rival_ranks.except q y.fingerprint
+      ≡ Told x.rival_ranks.ranks x.rival_ranks.except q y.fingerprint =
+      ap (λ z. Told z d.rival_ranks.except q y.fingerprint) x.kind.ranks
+      ∙ ap (λ z. Told x.rival_ranks.ranks z q y.fingerprint) x.kind.except in (
         λ t. first.0 (subst (λ z. z) (sym there) (own.1 t)),
         λ t. own.0 (subst (λ z. z) there (first.1 t)),
       )
@@ -251,9 +251,9 @@ module _ (h : List Op) (valid : IsValid h) (o : ObjectId) (us : List ℕ)
       let e = y.kind.kind in
       let dw : w.0 ≡ d = one_value ks k w.0 d w.2 x.kind.at in
       let ew : w.1 ≡ e = one_value ks l w.1 e w.3 y.kind.at in
-      let told : Told d.outline.ranks d.outline.except e.first e.fingerprint =
-      subst (λ (z : Kind). Told d.outline.ranks d.outline.except z.first z.fingerprint) ew
-      (subst (λ (z : Kind). Told z.outline.ranks z.outline.except w.1.first w.1.fingerprint) dw
+      let told : Told d.rival_ranks.ranks d.rival_ranks.except e.first e.fingerprint =
+      subst (λ (z : Kind). Told d.rival_ranks.ranks d.rival_ranks.except z.first z.fingerprint) ew
+      (subst (λ (z : Kind). Told z.rival_ranks.ranks z.rival_ranks.except w.1.first w.1.fingerprint) dw
       w.4) in
       let a = kinds.firsts k d x.kind.at in
       let b = kinds.firsts l e y.kind.at in

@@ -23,7 +23,7 @@ use Rattle.gf_ops.specs.declared.op.Op.{Op}
 use Rattle.gf_ops.specs.declared.change.Attr.TheVariants.{Place}
 use Rattle.gf_classes.specs.declared.setters.Setter.{Setter}
 use Rattle.gf_classes.specs.declared.kinds.Kind.{Kind}
-use Rattle.gf_classes.specs.declared.outlines.Outline.{Outline}
+use Rattle.gf_classes.specs.declared.rival_ranks.RivalRanks.{RivalRanks}
 use Rattle.gf_classes.specs.declared.fingerprint.Fingerprint.{Fingerprint}
 use Rattle.gf_classes.specs.Fingerprints.{fingerprint_cmp, are_same}
 use Rattle.gf_classes.specs.SameValues.{Entries, ranks_at, IsIndex}
@@ -34,7 +34,7 @@ use Rattle.gf_maximal.proofs.MaximalLemmas.{Contains-without}
 use Rattle.std.specs.BTreeMap.{is_at}
 use Rattle.std.specs.Map.{lookup}
 use Rattle.gf_classes.specs.Ranges.{HasRank}
-use Rattle.gf_classes.specs.Rivals.{IsOutline}
+use Rattle.gf_classes.specs.Rivals.{AreRivalRanks}
 use Rattle.gf_classes.specs.Kinds.{is_kind, IsKind, Gives, IsFirst, AreRising, Fits}
 use Rattle.gf_classes.specs.Kinds.{AreKinds, IsFirstFrom, IsMet, IsAmong, IsWithin}
 use Rattle.gf_classes.specs.Kinds.{AreRowsOf, ButFor, kind_fingerprints}
@@ -57,17 +57,17 @@ no_setter = record {
 
 -- ---- one class
 
-pub kind_told : (ks : List Kind) (k : ℕ) (r : Option Kind) (found : Outline) (site : ℕ)
+pub kind_told : (ks : List Kind) (k : ℕ) (r : Option Kind) (found : RivalRanks) (site : ℕ)
     → r ≡ slice_get ks k → is_kind r found site ≡ true → IsKind ks k site found
 kind_told ks k (Some d) found site e t =
-    let w = and_parts (d.hiding == site && bytes_eq d.outline.ranks found.ranks)
-    (are_same d.outline.except found.except) t in
-    let v = and_parts (d.hiding == site) (bytes_eq d.outline.ranks found.ranks) w.0 in record {
+    let w = and_parts (d.hiding == site && bytes_eq d.rival_ranks.ranks found.ranks)
+    (are_same d.rival_ranks.except found.except) t in
+    let v = and_parts (d.hiding == site) (bytes_eq d.rival_ranks.ranks found.ranks) w.0 in record {
       kind = d;
       at = sym e;
       hiding = (Decides-eqb d.hiding site).0 v.0;
-      ranks = (bytes_eq-Decides d.outline.ranks found.ranks).0 v.1;
-      except = same_told d.outline.except found.except w.1;
+      ranks = (bytes_eq-Decides d.rival_ranks.ranks found.ranks).0 v.1;
+      except = same_told d.rival_ranks.except found.except w.1;
     }
 kind_told ks k None found site e t = absurd cc
 
@@ -83,14 +83,14 @@ module _ (h : List Op) (ss : List Setter) where
   }
 
   module _ (m : ℕ) (ks : List Kind) (cs : List (Option ℕ)) (old : AreKinds h ss m ks cs)
-      (e : Setter) (at : slice_get ss m ≡ Some e) (found : Outline)
-      (rivals : IsOutline h ss e found.ranks found.except) where
+      (e : Setter) (at : slice_get ss m ≡ Some e) (found : RivalRanks)
+      (rivals : AreRivalRanks h ss e found.ranks found.except) where
     abbrev last : Kind
     last = record {
       first = m;
       fingerprint = e.fingerprint;
       hiding = e.hiding;
-      outline = found;
+      rival_ranks = found;
     }
 
     longer : (k : ℕ) (d : Kind) → IsFirst h ss m d → IsFirst h ss (m + 1) d
@@ -412,7 +412,7 @@ module _ (ks : List Kind) where
 
   pub rows_more : (m : ℕ) (e : Kind) (rs new : List (List ℕ)) (row : List ℕ)
       → slice_get ks m ≡ Some e
-      → ((l : ℕ) → Contains row l ↔ IsAmong ks e.outline.ranks e.outline.except l)
+      → ((l : ℕ) → Contains row l ↔ IsAmong ks e.rival_ranks.ranks e.rival_ranks.except l)
       → new ≡ rs ++ row ∷ [] → AreRowsOf ks m rs → AreRowsOf ks (m + 1) new
   rows_more m e rs new row there exact is a = record {
     count = let c = a.count in let n = length_push rs row in let l = ap length is in
@@ -432,7 +432,7 @@ module _ (ks : List Kind) where
             at = ap (λ z. slice_get z k) is ∙ (ap (slice_get (rs ++ row ∷ []))
                 (same ∙ sym a.count) ∙ got_last rs row);
             exact = λ x. subst (λ (z : Kind). Contains row x
-                ↔ IsAmong ks z.outline.ranks z.outline.except x) (sym one)
+                ↔ IsAmong ks z.rival_ranks.ranks z.rival_ranks.except x) (sym one)
                 (exact x);
           }
     ];

@@ -32,7 +32,7 @@ use Rattle.gf_classes.specs.Setters.{IsSetter, AreSetters, fingerprints, known}
 use Rattle.gf_classes.specs.Ranges.{AreApart, AreNear, IsCut}
 use Rattle.gf_classes.specs.SameValues.{Entries, ranks_at, IsIndex}
 use Rattle.gf_classes.specs.Rivals.{op_value, value_set, setter_value, have_one_value}
-use Rattle.gf_classes.specs.Rivals.{AreRivals, are_one, IsOutline}
+use Rattle.gf_classes.specs.Rivals.{AreRivals, are_one, AreRivalRanks}
 use Rattle.gf_classes.proofs.FingerprintLemmas.{determined_value}
 use Rattle.gf_classes.proofs.SameValueLemmas.{index_of_mapped}
 
@@ -243,13 +243,13 @@ module _ (h : List Op) (valid : IsValid h) (us : List ℕ) (o : ObjectId) where
           ))
           g
 
-  -- ---- outlines
+  -- ---- the ranks of rivals
 
   module _ (ss : List Setter) (setters : AreSetters h us o ss) (x : Setter)
       (there : Contains ss x) where
     -- the rivals themselves
-    pub outline_whole : (d : List ℕ) → AreRivals h ss x d → IsOutline h ss x d None
-    outline_whole d exact q = (
+    pub rival_ranks_whole : (d : List ℕ) → AreRivals h ss x d → AreRivalRanks h ss x d None
+    rival_ranks_whole d exact q = (
       λ r. record {
         setter = r.setter;
         at = r.at;
@@ -260,12 +260,12 @@ module _ (h : List Op) (valid : IsValid h) (us : List ℕ) (o : ObjectId) where
     )
 
     -- what is apart, but for the setters with the value of x
-    pub outline_own : (ix : Entries) → IsIndex (fingerprints ss) ix → x.own ≡ true
+    pub rival_ranks_own : (ix : Entries) → IsIndex (fingerprints ss) ix → x.own ≡ true
         → (s : List ℕ) → lookup (is_at (fingerprint_cmp x.fingerprint)) ix ≡ Some s
         → (d : List ℕ) (f : Option Fingerprint) → IsCut ss x s d
         → (f ≡ Some x.fingerprint) ⊎ ((f ≡ None) × ((q : ℕ) → Contains d q → ¬ (Contains s q)))
-        → IsOutline h ss x d f
-    outline_own ix index own s some d f cut except q = (
+        → AreRivalRanks h ss x d f
+    rival_ranks_own ix index own s some d f cut except q = (
       λ r.
           let e = r.setter in
           let b = setters.each e (contained_at ss q e r.at) in

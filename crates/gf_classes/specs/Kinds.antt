@@ -8,28 +8,28 @@ use Rattle.gf_ops.specs.declared.op.Op.{Op}
 use Rattle.gf_classes.specs.declared.setters.Setter.{Setter}
 use Rattle.gf_classes.specs.declared.kinds.Kind.{Kind}
 use Rattle.gf_classes.specs.Ranges.{HasRank}
-use Rattle.gf_classes.specs.Rivals.{IsRival, IsOutline}
+use Rattle.gf_classes.specs.Rivals.{IsRival, AreRivalRanks}
 use Rattle.gf_classes.specs.Fingerprints.{are_same}
 use Rattle.gf_classes.specs.declared.fingerprint.Fingerprint.{Fingerprint}
-use Rattle.gf_classes.specs.declared.outlines.Outline.{Outline}
+use Rattle.gf_classes.specs.declared.rival_ranks.RivalRanks.{RivalRanks}
 
--- the class k has the rivals of the outline and this hiding site
-pub record IsKind (ks : List Kind) (k site : ℕ) (found : Outline) : Type 0 where
+-- the class k has these rivals and this hiding site
+pub record IsKind (ks : List Kind) (k site : ℕ) (found : RivalRanks) : Type 0 where
   pub kind : Kind
   pub at : slice_get ks k ≡ Some kind
   pub hiding : kind.hiding ≡ site
-  pub ranks : kind.outline.ranks ≡ found.ranks
-  pub except : kind.outline.except ≡ found.except
+  pub ranks : kind.rival_ranks.ranks ≡ found.ranks
+  pub except : kind.rival_ranks.except ≡ found.except
 
--- there is a class, and it has the rivals of the outline and this hiding site
-abbrev pub is_kind : Option Kind → Outline → ℕ → Bool
-is_kind (Some d) found site = d.hiding == site && bytes_eq d.outline.ranks found.ranks
-    && are_same d.outline.except found.except
+-- there is a class, and it has these rivals and this hiding site
+abbrev pub is_kind : Option Kind → RivalRanks → ℕ → Bool
+is_kind (Some d) found site = d.hiding == site && bytes_eq d.rival_ranks.ranks found.ranks
+    && are_same d.rival_ranks.except found.except
 is_kind None found site = false
 
 -- new has the class k, with what d has; old has it too, or d itself is the new last class
 pub record Finds (old : List Kind) (d : Kind) (new : List Kind) (k : ℕ) : Type 0 where
-  pub kind : IsKind new k d.hiding d.outline
+  pub kind : IsKind new k d.hiding d.rival_ranks
   pub grown : (new ≡ old) ⊎ (new ≡ old ++ d ∷ [])
 
 -- d has the rivals of the setter with its rank, which is below m
@@ -39,7 +39,7 @@ pub record IsFirst (h : List Op) (ss : List Setter) (m : ℕ) (d : Kind) : Type 
   pub below : d.first < m
   pub fingerprint : d.fingerprint ≡ setter.fingerprint
   pub hiding : d.hiding ≡ setter.hiding
-  pub rivals : IsOutline h ss setter d.outline.ranks d.outline.except
+  pub rivals : AreRivalRanks h ss setter d.rival_ranks.ranks d.rival_ranks.except
 
 -- the first members rise from class to class
 abbrev pub AreRising : List Kind → Type 0
@@ -49,12 +49,12 @@ AreRising ks = (j k : ℕ) (a b : Kind) → slice_get ks j ≡ Some a → slice_
 -- the class, if it is one, has the rivals of e and its hiding site; if not, e has no rival
 abbrev pub Fits : List Op → List Setter → List Kind → Setter → Option ℕ → Type 0
 Fits h ss ks e None = (q : ℕ) → ¬ (IsRival h ss e q)
-Fits h ss ks e (Some k) = (d : Outline) × IsOutline h ss e d.ranks d.except
+Fits h ss ks e (Some k) = (d : RivalRanks) × AreRivalRanks h ss e d.ranks d.except
     × IsKind ks k e.hiding d
 
 -- new has the class of d, unless that has no rival
 abbrev pub Gives : List Kind → Kind → List Kind → Option ℕ → Type 0
-Gives old d new None = (d.outline.ranks ≡ []) × (new ≡ old)
+Gives old d new None = (d.rival_ranks.ranks ≡ []) × (new ≡ old)
 Gives old d new (Some k) = Finds old d new k
 
 -- cs have the class of e at its rank p
@@ -105,7 +105,7 @@ pub record IsWithin (ks : List Kind) (rs : List Run) (l : ℕ) : Type 0 where
 pub record IsRowOf (ks : List Kind) (rs : List (List ℕ)) (k : ℕ) (d : Kind) : Type 0 where
   pub row : List ℕ
   pub at : slice_get rs k ≡ Some row
-  pub exact : (l : ℕ) → Contains row l ↔ IsAmong ks d.outline.ranks d.outline.except l
+  pub exact : (l : ℕ) → Contains row l ↔ IsAmong ks d.rival_ranks.ranks d.rival_ranks.except l
 
 -- rs are the rows of the first m classes
 pub record AreRowsOf (ks : List Kind) (m : ℕ) (rs : List (List ℕ)) : Type 0 where

@@ -49,7 +49,7 @@ abbrev pub AreRivals : List Op → List Setter → Setter → List ℕ → Type 
 AreRivals h ss x d = (q : ℕ) → Contains d q ↔ IsRival h ss x q
 
 -- q is in d, and the value of its setter does not have the fingerprint f
-pub record IsOutlined (ss : List Setter) (d : List ℕ) (f : Option Fingerprint)
+pub record IsRivalRank (ss : List Setter) (d : List ℕ) (f : Option Fingerprint)
     (q : ℕ) : Type 0 where
   pub setter : Setter
   pub at : slice_get ss q ≡ Some setter
@@ -57,5 +57,5 @@ pub record IsOutlined (ss : List Setter) (d : List ℕ) (f : Option Fingerprint)
   pub other : f ≢ Some setter.fingerprint
 
 -- the setters in d without the fingerprint f are those that conflict directly with x
-abbrev pub IsOutline : List Op → List Setter → Setter → List ℕ → Option Fingerprint → Type 0
-IsOutline h ss x d f = (q : ℕ) → IsRival h ss x q ↔ IsOutlined ss d f q
+abbrev pub AreRivalRanks : List Op → List Setter → Setter → List ℕ → Option Fingerprint → Type 0
+AreRivalRanks h ss x d f = (q : ℕ) → IsRival h ss x q ↔ IsRivalRank ss d f q

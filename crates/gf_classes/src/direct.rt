@@ -110,10 +110,10 @@ fn row(
     requires rising { AreRising kinds.now }
     requires same { IsIndex (kind_fingerprints kinds.now) same.now }
     ensures { IfOk result (λ row. (l : _) → Contains row l
-        ↔ IsAmong kinds.now kind.now.outline.ranks kind.now.outline.except l) }
+        ↔ IsAmong kinds.now kind.now.rival_ranks.ranks kind.now.rival_ranks.except l) }
 {
-    let all = met(alloc, kinds, &kind.outline.ranks)?;
-    let row = but_for(alloc, same, kind.outline.except, all)?;
+    let all = met(alloc, kinds, &kind.rival_ranks.ranks)?;
+    let row = but_for(alloc, same, kind.rival_ranks.except, all)?;
     Ok(row)
 }
 

@@ -8,7 +8,7 @@ ghost use Rattle.gf_classes.specs.Kinds.{IsKind, is_kind, Finds, Gives, AreKinds
 ghost use Rattle.gf_classes.specs.Kinds.{kind_fingerprints};
 
 use crate::fingerprint::{Fingerprint, are_same};
-use crate::outlines::{Outline, outline_of};
+use crate::rival_ranks::{RivalRanks, rival_ranks_of};
 use crate::same_values::SameValues;
 use crate::setters::Setter;
 use gf_base::OutOfMemory;
@@ -23,18 +23,22 @@ pub(crate) struct Kind {
     pub first: usize,
     pub fingerprint: Fingerprint,
     pub hiding: usize,
-    pub outline: Outline,
+    pub rival_ranks: RivalRanks,
 }
 
 /// For the rivals and a hiding site the class to look at first.
 type Hints = BTreeMap<Vec<usize>, usize>;
 
 /// What the class of these rivals and this hiding site is looked up by.
-fn hint_of(alloc: Global, outline: &Outline, hiding: usize) -> Result<Vec<usize>, OutOfMemory> {
+fn hint_of(
+    alloc: Global,
+    rival_ranks: &RivalRanks,
+    hiding: usize,
+) -> Result<Vec<usize>, OutOfMemory> {
     let mut hint = Vec::new(alloc);
     hint.push(hiding)?;
-    hint.push(outline.mark)?;
-    for run in outline.ranks.runs() {
+    hint.push(rival_ranks.mark)?;
+    for run in rival_ranks.ranks.runs() {
         hint.push(run.start)?;
         hint.push(run.end)?;
     }
@@ -42,24 +46,24 @@ fn hint_of(alloc: Global, outline: &Outline, hiding: usize) -> Result<Vec<usize>
 }
 
 /// Whether there is a class, with these rivals and this hiding site.
-fn is_kind(kind: Option<&Kind>, outline: &Outline, hiding: usize) -> bool
-    ensures { result ≡ is_kind (option_copied kind.entry) outline.now hiding }
+fn is_kind(kind: Option<&Kind>, rival_ranks: &RivalRanks, hiding: usize) -> bool
+    ensures { result ≡ is_kind (option_copied kind.entry) rival_ranks.now hiding }
 {
     match kind {
         Some(kind) => {
             kind.hiding == hiding
-                && kind.outline.ranks.equals(&outline.ranks)
-                && are_same(kind.outline.except, outline.except)
+                && kind.rival_ranks.ranks.equals(&rival_ranks.ranks)
+                && are_same(kind.rival_ranks.except, rival_ranks.except)
         }
         None => false,
     }
 }
 
 /// Whether there is such a class, with these rivals and this hiding site.
-fn is_kind_at(kinds: &[Kind], class: usize, outline: &Outline, hiding: usize) -> bool
-    ensures { result ≡ is_kind (slice_get kinds.now class) outline.now hiding }
+fn is_kind_at(kinds: &[Kind], class: usize, rival_ranks: &RivalRanks, hiding: usize) -> bool
+    ensures { result ≡ is_kind (slice_get kinds.now class) rival_ranks.now hiding }
 {
-    is_kind(kinds.get(class), outline, hiding)
+    is_kind(kinds.get(class), rival_ranks, hiding)
 }
 
 /// The class at the hint, if it has these rivals and this hiding site.
@@ -67,13 +71,13 @@ fn hinted(
     hints: &Hints,
     kinds: &[Kind],
     hint: &Vec<usize>,
-    outline: &Outline,
+    rival_ranks: &RivalRanks,
     hiding: usize,
 ) -> Option<usize>
-    ensures { IfSome result (λ k. IsKind kinds.now k hiding outline.now) }
+    ensures { IfSome result (λ k. IsKind kinds.now k hiding rival_ranks.now) }
 {
     let class = *hints.get(hint)?;
-    if is_kind_at(kinds, class, outline, hiding) {
+    if is_kind_at(kinds, class, rival_ranks, hiding) {
         Some(class)
     } else {
         None
@@ -89,8 +93,8 @@ fn class_of(
 ) -> Result<usize, OutOfMemory>
     ensures { IfOk result (λ k. Finds kinds.old.items kind kinds.new.items k) }
 {
-    let hint = hint_of(alloc, &kind.outline, kind.hiding)?;
-    if let Some(class) = hinted(hints, kinds, &hint, &kind.outline, kind.hiding) {
+    let hint = hint_of(alloc, &kind.rival_ranks, kind.hiding)?;
+    if let Some(class) = hinted(hints, kinds, &hint, &kind.rival_ranks, kind.hiding) {
         return Ok(class);
     }
     let class = kinds.len();
@@ -108,7 +112,7 @@ fn class_for(
 ) -> Result<Option<usize>, OutOfMemory>
     ensures { IfOk result (λ c. Gives kinds.old.items kind kinds.new.items c) }
 {
-    if kind.outline.ranks.is_empty() {
+    if kind.rival_ranks.ranks.is_empty() {
         return Ok(None);
     }
     let class = class_of(alloc, kind, hints, kinds)?;
@@ -139,12 +143,12 @@ pub(crate) fn kinds_of(
     let mut kinds = Vec::new(alloc);
     let mut classes = Vec::new(alloc);
     for (first, setter) in setters.iter().enumerate() {
-        let outline = outline_of(alloc, ops, setters, index, setter)?;
+        let rival_ranks = rival_ranks_of(alloc, ops, setters, index, setter)?;
         let kind = Kind {
             first,
             fingerprint: setter.fingerprint,
             hiding: setter.hiding,
-            outline,
+            rival_ranks,
         };
         classes.push(class_for(alloc, kind, &mut hints, &mut kinds)?)?;
     }

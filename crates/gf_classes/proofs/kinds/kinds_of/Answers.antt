@@ -5,8 +5,8 @@ use Rattle.gf_classes.specs.Kinds.{AreKinds}
 use Rattle.gf_classes.proofs.KindLemmas.{no_setter, kinds_more}
 use Rattle.gf_classes.proofs.kinds.kinds_of.Goals as goal
 
-pub outline_of-requires-clause-keyed : goal.outline_of-requires-clause-keyed
-outline_of-requires-clause-keyed c =
+pub rival_ranks_of-requires-clause-keyed : goal.rival_ranks_of-requires-clause-keyed
+rival_ranks_of-requires-clause-keyed c =
     let ss = c.args.setters.now in
     let e = get_or ss c.loop-first.first no_setter in
     c.requires.sorted.keyed e (contained_at ss c.loop-first.first e
@@ -17,8 +17,8 @@ loop-first-preserved c = λ us o valid setters index.
     let at = slice_get-get_or c.args.setters.now c.loop-first.first _ c.loop-first-test.true in
     kinds_more c.args.ops.now c.args.setters.now c.loop-first.first c.loop-first.kinds.items
     c.loop-first.classes.items (c.loop-first.invariant us o valid setters index) _ at
-    c.in_ok-outline.outline
-    (c.in_ok-outline.ensures us o valid setters index
+    c.in_ok-rival_ranks.rival_ranks
+    (c.in_ok-rival_ranks.ensures us o valid setters index
     (contained_at c.args.setters.now c.loop-first.first _ at)) c.class_for.new.kinds.items
     c.in_ok-class_for.field-0 c.push.new.self.items c.in_ok-class_for.ensures
     c.in_ok-push.ensures.items

@@ -5,7 +5,7 @@ ghost use Rattle.std.specs.BTreeMap.{is_at};
 ghost use Rattle.std.specs.Map.{lookup};
 ghost use Rattle.gf_ops.specs.ValidHistory.{IsValid};
 ghost use Rattle.gf_classes.specs.Ranges.{IsCut};
-ghost use Rattle.gf_classes.specs.Rivals.{IsOutline};
+ghost use Rattle.gf_classes.specs.Rivals.{AreRivalRanks};
 ghost use Rattle.gf_classes.specs.SameValues.{IsIndex};
 ghost use Rattle.gf_classes.specs.Setters.{AreSorted, IsKeyed, AreSetters, fingerprints};
 
@@ -21,7 +21,7 @@ use std::alloc::Global;
 
 /// The ranks of some setters, and the fingerprint of those among them that are no rivals.
 #[derive(Drop)]
-pub(crate) struct Outline {
+pub(crate) struct RivalRanks {
     pub ranks: Numbers,
     pub except: Option<Fingerprint>,
     /// A number by which most fingerprints differ, 0 where there is none.
@@ -38,12 +38,12 @@ fn mark_of(same: &Numbers) -> usize {
 
 /// The setters that are apart from a setter, where all with its fingerprint have its value, and
 /// have these ranks.
-fn own_outline(
+fn own_rival_ranks(
     alloc: Global,
     setters: &[Setter],
     same: &Numbers,
     x: &Setter,
-) -> Result<Outline, OutOfMemory>
+) -> Result<RivalRanks, OutOfMemory>
     requires sorted { AreSorted setters.now }
     requires keyed { IsKeyed x.now }
     ensures cut { IfOk result (λ found. IsCut setters.now x.now same.now found.ranks) }
@@ -54,13 +54,13 @@ fn own_outline(
     let runs = ranges(alloc, setters, x, same.runs())?;
     let ranks = Numbers::of_runs(alloc, runs)?;
     if ranks.intersects(same) {
-        Ok(Outline {
+        Ok(RivalRanks {
             ranks,
             except: Some(x.fingerprint),
             mark: mark_of(same),
         })
     } else {
-        Ok(Outline {
+        Ok(RivalRanks {
             ranks,
             except: None,
             mark: 0,
@@ -69,22 +69,22 @@ fn own_outline(
 }
 
 /// The rivals of a setter.
-fn whole_outline(
+fn whole_rival_ranks(
     alloc: Global,
     ops: &[Op],
     setters: &[Setter],
     index: &SameValues,
     x: &Setter,
-) -> Result<Outline, OutOfMemory>
+) -> Result<RivalRanks, OutOfMemory>
     requires sorted { AreSorted setters.now }
     requires keyed { IsKeyed x.now }
     ensures { IfOk result (λ found. (us : _) (o : _) → IsValid ops.now
         → AreSetters ops.now us o setters.now → IsIndex (fingerprints setters.now) index.now
         → Contains setters.now x.now
-        → IsOutline ops.now setters.now x.now found.ranks found.except) }
+        → AreRivalRanks ops.now setters.now x.now found.ranks found.except) }
 {
     let ranks = rivals(alloc, ops, setters, index, x)?;
-    Ok(Outline {
+    Ok(RivalRanks {
         ranks,
         except: None,
         mark: 0,
@@ -92,27 +92,27 @@ fn whole_outline(
 }
 
 /// The rivals of a setter in short, which most equal rivals have alike.
-pub(crate) fn outline_of(
+pub(crate) fn rival_ranks_of(
     alloc: Global,
     ops: &[Op],
     setters: &[Setter],
     index: &SameValues,
     x: &Setter,
-) -> Result<Outline, OutOfMemory>
+) -> Result<RivalRanks, OutOfMemory>
     requires sorted { AreSorted setters.now }
     requires keyed { IsKeyed x.now }
     ensures { IfOk result (λ found. (us : _) (o : _) → IsValid ops.now
         → AreSetters ops.now us o setters.now → IsIndex (fingerprints setters.now) index.now
         → Contains setters.now x.now
-        → IsOutline ops.now setters.now x.now found.ranks found.except) }
+        → AreRivalRanks ops.now setters.now x.now found.ranks found.except) }
 {
     match index.get(x.fingerprint) {
         Some(same) if x.own => {
-            let found = own_outline(alloc, setters, same, x)?;
+            let found = own_rival_ranks(alloc, setters, same, x)?;
             Ok(found)
         }
         _ => {
-            let found = whole_outline(alloc, ops, setters, index, x)?;
+            let found = whole_rival_ranks(alloc, ops, setters, index, x)?;
             Ok(found)
         }
     }

@@ -1,7 +1,7 @@
 use Rattle.std.proofs.Common.{refl, inl, inr, sym, ◌∙◌}
 use Rattle.gf_maximal.proofs.MaximalLemmas.{intersects_none}
 use Rattle.gf_classes.proofs.RangeLemmas.{cut_from}
-use Rattle.gf_classes.proofs.outlines.own_outline.Goals as goal
+use Rattle.gf_classes.proofs.rival_ranks.own_rival_ranks.Goals as goal
 
 pub returns-then-intersects-clause-cut : goal.returns-then-intersects-clause-cut
 returns-then-intersects-clause-cut c = cut_from c.in_ok-runs.runs.items c.in_ok-ranks.ranks
