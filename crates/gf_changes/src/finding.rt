@@ -13,14 +13,14 @@ use std::alloc::Global;
 #[derive(Drop)]
 pub(crate) struct Finder {
     by_object: Vec<Rank>,
-    by_look: Vec<Look>,
+    by_place_and_colour: Vec<PlaceAndColour>,
     /// The indices of those whose object was made since the drawing was written.
     newer: Vec<usize>,
 }
 
-/// The place and the colour of a version, and its index.
+/// The place, the colour and the index of a version, in this order for sorting.
 #[derive(Clone, Copy, PartialEq, Eq, PartialOrd, Ord)]
-struct Look {
+struct PlaceAndColour {
     x: i32,
     y: i32,
     r: u8,
@@ -40,7 +40,7 @@ impl Finder {
     ) -> Result<Finder, OutOfMemory> {
         Ok(Finder {
             by_object: ranks_by_object(alloc, versions)?,
-            by_look: looks_of(alloc, candidates)?,
+            by_place_and_colour: places_and_colours(alloc, candidates)?,
             newer: newer_than(alloc, versions, known)?,
         })
     }
@@ -60,11 +60,12 @@ impl Finder {
 
     /// The indices of the versions that have the place and the colour of a figure, rising.
     pub(crate) fn like(&self, alloc: Global, figure: &Target) -> Result<Vec<usize>, OutOfMemory> {
-        let first = first_from(&self.by_look, look_of(&figure.start, 0));
-        let last = first_from(&self.by_look, look_of(&figure.start, usize::MAX));
+        let entries = &self.by_place_and_colour;
+        let first = first_from(entries, place_and_colour(&figure.start, 0));
+        let last = first_from(entries, place_and_colour(&figure.start, usize::MAX));
         let mut indices = Vec::new(alloc);
-        for look in self.by_look.get(first..last).unwrap_or(&[]) {
-            indices.push(look.index)?;
+        for entry in entries.get(first..last).unwrap_or(&[]) {
+            indices.push(entry.index)?;
         }
         Ok(indices)
     }
@@ -75,18 +76,21 @@ impl Finder {
     }
 }
 
-/// The looks of candidates, by place and colour and then by index.
-fn looks_of(alloc: Global, candidates: &[Candidate]) -> Result<Vec<Look>, OutOfMemory> {
-    let mut looks = Vec::with_capacity(alloc, candidates.len())?;
+/// The places and colours of candidates with their indices, sorted.
+fn places_and_colours(
+    alloc: Global,
+    candidates: &[Candidate],
+) -> Result<Vec<PlaceAndColour>, OutOfMemory> {
+    let mut entries = Vec::with_capacity(alloc, candidates.len())?;
     for (index, candidate) in candidates.iter().enumerate() {
-        looks.push(look_of(&candidate.start, index))?;
+        entries.push(place_and_colour(&candidate.start, index))?;
     }
-    looks.sort()?;
-    Ok(looks)
+    entries.sort()?;
+    Ok(entries)
 }
 
-fn look_of(start: &Start, index: usize) -> Look {
-    Look {
+fn place_and_colour(start: &Start, index: usize) -> PlaceAndColour {
+    PlaceAndColour {
         x: start.place.x,
         y: start.place.y,
         r: start.colour.r,
@@ -96,9 +100,9 @@ fn look_of(start: &Start, index: usize) -> Look {
     }
 }
 
-/// The index of the first look that is not less than another one.
-fn first_from(looks: &[Look], other: Look) -> usize {
-    match looks.binary_search(&other) {
+/// The index of the first of these sorted entries that is not less than another one.
+fn first_from(entries: &[PlaceAndColour], other: PlaceAndColour) -> usize {
+    match entries.binary_search(&other) {
         Ok(index) | Err(index) => index,
     }
 }
