@@ -26,7 +26,7 @@ use Rattle.gf_take_run.specs.declared.planning.Making.{Making}
 use Rattle.gf_take_run.specs.declared.taken.Taken.{Taken}
 use Rattle.gf_take_run.specs.declared.drawing_error.DrawingError.{DrawingError}
 use Rattle.gf_take_run.specs.declared.drawing_error.DrawingError.TheVariants as error
-use Rattle.gf_take_run.specs.declared.counting.Numbers.{Numbers}
+use Rattle.gf_take_run.specs.declared.counting.Counts.{Counts}
 use Rattle.gf_take_run.specs.declared.making.MadeFrom.{MadeFrom}
 use Rattle.gf_take_run.specs.ChangedObjects.{MayChange}
 use Rattle.gf_take_run.specs.LeftObjects.{LeavesStanding}
@@ -98,10 +98,10 @@ pub record MakesBehind (q : TakeRequest) (h : List Op) (fig : List ℕ) (drawing
   pub text : IsShownText q.named (h ++ made.ops.items) made.text.items
 
 -- the operations are counted
-pub record AreCounted (new : List Op) (numbers : Numbers) : Type 0 where
-  pub changed : CountsObjects alters new numbers.changed
-  pub hidden : CountsObjects hides new numbers.hidden
-  pub drawn : CountsObjects creates new numbers.drawn
+pub record AreCounted (new : List Op) (counts : Counts) : Type 0 where
+  pub changed : CountsObjects alters new counts.changed
+  pub hidden : CountsObjects hides new counts.hidden
+  pub drawn : CountsObjects creates new counts.drawn
 
 -- why site s makes nothing of the drawing behind its base
 abbrev pub RefusesBase : ℕ → Option ℕ → List Op → List ℕ → Drawn → DrawingError → Type 0

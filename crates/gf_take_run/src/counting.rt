@@ -12,7 +12,7 @@ use std::alloc::Global;
 
 /// How many objects operations change, hide and create.
 #[derive(Clone, Copy)]
-pub(crate) struct Numbers {
+pub(crate) struct Counts {
     pub(crate) changed: usize,
     pub(crate) hidden: usize,
     pub(crate) drawn: usize,
@@ -27,13 +27,13 @@ pub(crate) enum Counted {
 }
 
 /// How many objects these operations change, hide and create.
-pub(crate) fn numbers_of(alloc: Global, ops: &[Op]) -> Result<Numbers, OutOfMemory>
+pub(crate) fn counts_of(alloc: Global, ops: &[Op]) -> Result<Counts, OutOfMemory>
     ensures { IfOk result (AreCounted ops.now) }
 {
     let changed = objects_of(alloc, ops, Counted::Changed)?.len();
     let hidden = objects_of(alloc, ops, Counted::Hidden)?.len();
     let drawn = objects_of(alloc, ops, Counted::Drawn)?.len();
-    Ok(Numbers {
+    Ok(Counts {
         changed,
         hidden,
         drawn,

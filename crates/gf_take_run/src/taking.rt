@@ -20,7 +20,7 @@ ghost use Rattle.gf_kept.specs.Keeping.{Keeps};
 ghost use Rattle.gf_replay.specs.Behind.{Divides};
 
 use crate::behind::make_behind;
-use crate::counting::numbers_of;
+use crate::counting::counts_of;
 use crate::drawing_error::DrawingError;
 use crate::knowing::{check_age, check_known, made_since};
 use crate::parting::{Parts, part};
@@ -132,15 +132,15 @@ fn take_drawing(
     check_age(site.history(), request.site, &drawn.knew)?;
     let since = made_since(site.history(), request.site, &drawn.knew);
     let made = make_behind(alloc, site, fig, drawn, request)?;
-    let numbers = numbers_of(alloc, &made.ops)?;
+    let counts = counts_of(alloc, &made.ops)?;
     let text = text_of(alloc, &made.ops, &made.text)?;
     let taken = Taken {
         made: made_of(&made.ops),
         since,
         thin: made.thin,
-        changed: numbers.changed,
-        hidden: numbers.hidden,
-        drawn: numbers.drawn,
+        changed: counts.changed,
+        hidden: counts.hidden,
+        drawn: counts.drawn,
     };
     Ok(TakenDrawing {
         ops: made.ops,

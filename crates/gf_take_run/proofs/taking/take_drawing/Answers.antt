@@ -49,8 +49,8 @@ returns-clause-ok c =
     (sym c.deref-2.ensures.value) c.in_ok-made.ensures.ok.text) in
     let written = subst (λ (os : List Op). IsWrittenText q.named h os text) c.deref-2.ensures.value
     (c.in_ok-text.ensures q.named h shown) in
-    let counted = subst (λ (os : List Op). AreCounted os c.in_ok-numbers.numbers)
-    c.deref.ensures.value c.in_ok-numbers.ensures in
+    let counted = subst (λ (os : List Op). AreCounted os c.in_ok-counts.counts)
+    c.deref.ensures.value c.in_ok-counts.ensures in
     takes_so q h c.args.fig.now c.args.drawn.now.drawing knew made _ there young
     c.in_ok-made.ensures.ok written (c.made_of.ensures ∙ ap made_of c.deref-4.ensures.value)
     counted.changed counted.hidden counted.drawn
