@@ -1,121 +1,165 @@
 -- Arrays of the length that is asked for, and of another.
-use Rattle.std.proofs.Common.{◌≡◌, ◌≤◌, ◌<◌, List, [], ◌∷◌, length, refl, ap, arith, Ok, Err}
-use Rattle.std.proofs.Common.{Bool, true}
-use Rattle.std.proofs.Common.{get_or}
+use Rattle.std.proofs.Common.{◌≡◌, ℕ, ◌≤◌, ◌<◌, ◌==◌, List, [], ◌∷◌, ◌++◌, length, refl, arith, ◌∙◌}
+use Rattle.std.proofs.Common.{Bool, true, false, ◌&&◌, nat_le, Ok, Err, get_or, if◌then◌else◌}
 use Rattle.std.specs.List.{list_all}
+use Rattle.gf_ops.specs.Limits.{is_clock}
+use Rattle.gf_json.specs.declared.line_error.LineError.{LineError}
+use Rattle.gf_json.specs.LineValues.{Got}
+use Rattle.gf_json.specs.Limited.{kept, limited}
+use Rattle.gf_json.proofs.KeyLemmas.{list_all-append}
+use Rattle.std.specs.Prelude.{Option, Some, None, option_map, option_and_then}
+use Rattle.gf_ops.specs.declared.op.Clock.{Clock}
 use Rattle.serde_json.specs.Data.{Data}
 use Rattle.serde_json.specs.declared.value.Value.{Value}
 use Rattle.serde_json.specs.View.{view, items_view}
-use Rattle.gf_json.specs.declared.line_error.LineError.TheVariants as fault
-use Rattle.gf_json.specs.LineValues.{Got, mapped}
-use Rattle.gf_json.specs.LineForms.{elements}
-use Rattle.gf_json.specs.StepValues.{◌&◌, each, two_of}
-use Rattle.gf_json.specs.StepLimits.{clock, entry_value}
+use Rattle.gf_json.specs.LineForms.{◌&◌, both, each, elements, natural}
+use Rattle.gf_json.specs.ReadLists.{clock_of}
+
+-- ---- arrays of two
 
 -- fewer than two
-pub two_of-short : (vs : List Value) → length vs < 2
-    → two_of (elements (items_view vs)) ≡ Err fault.Field
-two_of-short [] h = refl
-two_of-short (v ∷ []) h = refl
-two_of-short (v ∷ w ∷ vs) h = absurd (omega (arith, h))
+pub both-short : {A : Type 0} (form : Data → Option A) (vs : List Value) → length vs < 2
+    → both form (elements (items_view vs)) ≡ None
+both-short form [] h = refl
+both-short form (v ∷ []) h = refl
+both-short form (v ∷ w ∷ vs) h = absurd (omega (arith, h))
 
 -- more than two
-pub two_of-long : (vs : List Value) → 3 ≤ length vs
-    → two_of (elements (items_view vs)) ≡ Err fault.Field
-two_of-long [] h = refl
-two_of-long (v ∷ []) h = refl
-two_of-long (v ∷ w ∷ []) h = absurd (omega (arith, h))
-two_of-long (v ∷ w ∷ x ∷ vs) h = refl
+pub both-long : {A : Type 0} (form : Data → Option A) (vs : List Value) → 3 ≤ length vs
+    → both form (elements (items_view vs)) ≡ None
+both-long form [] h = refl
+both-long form (v ∷ []) h = refl
+both-long form (v ∷ w ∷ []) h = absurd (omega (arith, h))
+both-long form (v ∷ w ∷ x ∷ vs) h = refl
 
-pub ruleset not_two = (two_of-short, two_of-long)
+pub ruleset not_two = (both-short, both-long)
+
+-- ---- as many as there are
 
 -- an array has as many elements as it has values
 pub length-elements : (vs : List Value) → length (elements (items_view vs)) ≡ length vs
 length-elements [] = refl
 length-elements (v ∷ vs) = let i = length-elements vs in omega (arith, i)
 
--- a second part that is mapped
-pub beside-mapped : {A B C : Type 0} (f : B → C) (x : Got A) (y : Got B)
-    → (x & mapped f y) ≡ mapped (λ p. (p.0, f p.1)) (x & y)
-beside-mapped f (Ok a) (Ok b) = refl
-beside-mapped f (Ok a) (Err e) = refl
-beside-mapped f (Err e) (Ok b) = refl
-beside-mapped f (Err e) (Err fault.Json) = refl
-beside-mapped f (Err e) (Err fault.Field) = refl
-beside-mapped f (Err e) (Err fault.Range) = refl
-beside-mapped f (Err e) (Err fault.OutOfMemory) = refl
+-- as many have their form as there are
+pub length-each : {A : Type 0} (form : Data → Option A) (ds : List Data) (xs : List A)
+    → each form ds ≡ Some xs → length xs ≡ length ds
+length-each form [] xs h = let e : [] ≡ xs = cc in rw (← e) refl
+length-each {A = A} form (d ∷ ds) xs h = of_both (form d) (each form ds) (length-each form ds) h
+  where
+    of_both : (x : Option A) (y : Option (List A))
+        → ((zs : List A) → y ≡ Some zs → length zs ≡ length ds)
+        → option_map (λ p. p.0 ∷ p.1) (x & y) ≡ Some xs → length xs ≡ length (d ∷ ds)
+    of_both None y m k = absurd cc
+    of_both (Some a) None m k = absurd cc
+    of_both (Some a) (Some bs) m k =
+        let e : a ∷ bs ≡ xs = cc in
+        let l = m bs refl in
+        rw (← e) (omega (arith, l))
 
--- one map after the other
-mapped-mapped : {A B C : Type 0} (f : B → C) (g : A → B) (x : Got A)
-    → mapped f (mapped g x) ≡ mapped (λ a. f (g a)) x
-mapped-mapped f g (Ok a) = refl
-mapped-mapped f g (Err e) = refl
+-- ---- clocks
 
--- a second part that is there
-beside-Ok : {A B : Type 0} (b : B) (x : Got A) → (x & Ok b) ≡ mapped (λ a. (a, b)) x
-beside-Ok b (Ok a) = refl
-beside-Ok b (Err e) = refl
+-- no number of entries but eight makes a clock
+clock-other : (ds : List Data) → (length ds == 8) ≡ false → clock_of ds ≡ None
+clock-other ds h = of_each (each natural ds) (length-each natural ds)
+  where
+    of_each : (x : Option (List ℕ)) → ((ns : List ℕ) → x ≡ Some ns → length ns ≡ length ds)
+        → option_and_then {U = Clock} (λ ns. if length ns == 8 then Some (record { 0 = ns }) else None) x
+        ≡ None
+    of_each None l = refl
+    of_each (Some ns) l = let e = l ns refl in rw (e, h) refl
 
--- each of eight
-each_of_eight : {A : Type 0} (form : Data → Got A) (a b c d e f g h : Data) →
-    each form (a ∷ b ∷ c ∷ d ∷ e ∷ f ∷ g ∷ h ∷ [])
-    ≡ mapped (λ (a, (b, (c, (d, (e, (f, (g, h))))))). a ∷ b ∷ c ∷ d ∷ e ∷ f ∷ g ∷ h ∷ [])
-    (form a & form b & form c & form d & form e & form f & form g & form h)
-each_of_eight form a b c d e f g h = simp (beside-Ok, beside-mapped, mapped-mapped)
-
--- a clock has no fewer entries
-pub clock-short : (vs : List Value) → length vs < 8
-    → clock (elements (items_view vs)) ≡ Err fault.Field
+-- no fewer
+pub clock-short : (vs : List Value) → length vs < 8 → clock_of (elements (items_view vs)) ≡ None
 clock-short vs h =
     let e = length-elements vs in
-    let n : length (elements (items_view vs)) < 8 = omega arith in grind (arith, n)
+    let n : length (elements (items_view vs)) < 8 = omega arith in
+    clock-other (elements (items_view vs)) (grind (arith, n))
 
 -- nor more
-pub clock-long : (vs : List Value) → 9 ≤ length vs
-    → clock (elements (items_view vs)) ≡ Err fault.Field
+pub clock-long : (vs : List Value) → 9 ≤ length vs → clock_of (elements (items_view vs)) ≡ None
 clock-long vs h =
     let e = length-elements vs in
-    let n : 9 ≤ length (elements (items_view vs)) = omega arith in grind (arith, n)
+    let n : 9 ≤ length (elements (items_view vs)) = omega arith in
+    clock-other (elements (items_view vs)) (grind (arith, n))
 
 pub ruleset not_eight = (clock-short, clock-long)
 
--- the clock of eight elements
+-- eight entries are four and four
+eight : (a b c d e f g h : Data) → clock_of (a ∷ b ∷ c ∷ d ∷ e ∷ f ∷ g ∷ h ∷ [])
+    ≡ option_map (λ p. record { 0 = p.0 ++ p.1 })
+    (each natural (a ∷ b ∷ c ∷ d ∷ []) & each natural (e ∷ f ∷ g ∷ h ∷ []))
+eight a b c d e f g h = of_each (natural a) (natural b) (natural c) (natural d) (natural e)
+    (natural f) (natural g) (natural h)
+  where
+    cons : Option ℕ → Option (List ℕ) → Option (List ℕ)
+    cons x y = option_map (λ p. p.0 ∷ p.1) (x & y)
+
+    of_each : (a b c d e f g h : Option ℕ)
+        → option_and_then {U = Clock} (λ ns. if length ns == 8 then Some (record { 0 = ns }) else None)
+        (cons a (cons b (cons c (cons d (cons e (cons f (cons g (cons h (Some [])))))))))
+        ≡ option_map (λ p. record { 0 = p.0 ++ p.1 })
+        (cons a (cons b (cons c (cons d (Some [])))) & cons e (cons f (cons g (cons h (Some [])))))
+    of_each None b c d e f g h = refl
+    of_each (Some a) None c d e f g h = refl
+    of_each (Some a) (Some b) None d e f g h = refl
+    of_each (Some a) (Some b) (Some c) None e f g h = refl
+    of_each (Some a) (Some b) (Some c) (Some d) None f g h = refl
+    of_each (Some a) (Some b) (Some c) (Some d) (Some e) None g h = refl
+    of_each (Some a) (Some b) (Some c) (Some d) (Some e) (Some f) None h = refl
+    of_each (Some a) (Some b) (Some c) (Some d) (Some e) (Some f) (Some g) None = refl
+    of_each (Some a) (Some b) (Some c) (Some d) (Some e) (Some f) (Some g) (Some h) = refl
+
+-- the clock of eight values
 pub clock_of_eight : (vs : List Value) (a b c d e f g h : Value) → 8 ≤ length vs → length vs < 9
     → a ≡ get_or vs 0 a → b ≡ get_or vs 1 b → c ≡ get_or vs 2 c → d ≡ get_or vs 3 d
     → e ≡ get_or vs 4 e → f ≡ get_or vs 5 f → g ≡ get_or vs 6 g → h ≡ get_or vs 7 h
-    → clock (elements (items_view vs)) ≡ mapped
-    (λ (a, (b, (c, (d, (e, (f, (g, h))))))). record { 0 = a ∷ b ∷ c ∷ d ∷ e ∷ f ∷ g ∷ h ∷ [] })
-    (entry_value (view a) & entry_value (view b) & entry_value (view c) & entry_value (view d) &
-    entry_value (view e) & entry_value
-    (view f) & entry_value (view g) & entry_value (view h))
+    → clock_of (elements (items_view vs)) ≡ option_map (λ p. record { 0 = p.0 ++ p.1 })
+    (each natural (view a ∷ view b ∷ view c ∷ view d ∷ [])
+    & each natural (view e ∷ view f ∷ view g ∷ view h ∷ []))
 clock_of_eight (v0 ∷ v1 ∷ v2 ∷ v3 ∷ v4 ∷ v5 ∷ v6 ∷ v7 ∷ []) a b c d e f g h l m p q r s t u v w =
-    rw (p, q, r, s, t, u, v, w, each_of_eight entry_value) (mapped-mapped _ _ _)
+    rw (p, q, r, s, t, u, v, w) (eight (view v0) (view v1) (view v2) (view v3) (view v4) (view v5)
+    (view v6) (view v7))
 clock_of_eight vs a b c d e f g h l m p q r s t u v w = absurd (omega (arith, l, m))
 
--- what a mapped part is made of
-pub mapped-parts : {A B : Type 0} (f : A → B) (x : Got A) (b : B) → mapped f x ≡ Ok b
-    → (a : A) × (x ≡ Ok a) × (f a ≡ b)
-mapped-parts f (Ok a) b h = (a, refl, cc)
-mapped-parts f (Err e) b h = absurd cc
+-- four entries and four that keep their limits
+abbrev joined : List ℕ × List ℕ → Clock
+joined p = record { 0 = p.0 ++ p.1 }
 
--- what both parts are
-pub beside-parts : {A B : Type 0} (x : Got A) (y : Got B) (p : A × B) → (x & y) ≡ Ok p
-    → (x ≡ Ok p.0) × (y ≡ Ok p.1)
-beside-parts {A = A} {B = B} (Ok a) (Ok b) p h = let e : (a, b) ≡ p = cc in
-    (ap (λ (q : A × B). Ok q.0) e, ap (λ (q : A × B). Ok q.1) e)
-beside-parts (Ok a) (Err e) p h = absurd cc
-beside-parts (Err e) (Ok b) p h = absurd cc
-beside-parts (Err e) (Err fault.Json) p h = absurd cc
-beside-parts (Err e) (Err fault.Field) p h = absurd cc
-beside-parts (Err e) (Err fault.Range) p h = absurd cc
-beside-parts (Err e) (Err fault.OutOfMemory) p h = absurd cc
+abbrev are_entries : List ℕ → Bool
+are_entries ns = list_all (λ n. nat_le n 10000) ns
 
--- what holds of each element that is read
-pub each-all : {A : Type 0} (p : A → Bool) (form : Data → Got A)
-    → ((d : Data) (a : A) → form d ≡ Ok a → p a ≡ true) → (ds : List Data) (found : List A)
-    → each form ds ≡ Ok found → list_all p found ≡ true
-each-all p form t [] found h = let e : [] ≡ found = cc in rw (← e) refl
-each-all p form t (d ∷ ds) found h =
-    let (q, b, e) = mapped-parts (λ r. r.0 ∷ r.1) (form d & each form ds) found h in
-    let parts = beside-parts (form d) (each form ds) q b in
-    rw (← e, t d q.0 parts.0) (each-all p form t ds q.1 parts.1)
+four_more : (ms ns : List ℕ)
+    → ◌≡◌ {A = Got (Option Clock)} (Ok (option_map joined (kept are_entries ms & kept are_entries ns)))
+    (Ok (kept is_clock (joined (ms, ns))))
+four_more ms ns = rw (list_all-append (λ n. nat_le n 10000) ms ns) (by_tests (are_entries ms) (are_entries ns))
+  where
+    by_tests : (s t : Bool) → ◌≡◌ {A = Got (Option Clock)} (Ok (option_map joined ((if s then Some ms else None)
+        & (if t then Some ns else None)))) (Ok (if s && t then Some (joined (ms, ns)) else None))
+    by_tests true true = refl
+    by_tests true false = refl
+    by_tests false true = refl
+    by_tests false false = refl
+
+pub entries_limited : (x y u v : Option (List ℕ)) → ◌≡◌ {A = Got (Option (List ℕ))} (Ok u) (limited are_entries x)
+    → ◌≡◌ {A = Got (Option (List ℕ))} (Ok v) (limited are_entries y)
+    → Ok (option_map joined (u & v)) ≡ limited is_clock (option_map joined (x & y))
+entries_limited None y u v h k = absurd cc
+entries_limited (Some ms) None u v h k = absurd cc
+entries_limited (Some ms) (Some ns) u v h k =
+    let e : u ≡ kept are_entries ms = cc in
+    let f : v ≡ kept are_entries ns = cc in
+    rw (e, f) (four_more ms ns)
+
+pub last_fault : (e : LineError) (x y : Option (List ℕ)) → ◌≡◌ {A = Got (Option (List ℕ))} (Err e) (limited are_entries y)
+    → Err e ≡ limited is_clock (option_map joined (x & y))
+last_fault e None None h = cc
+last_fault e (Some ms) None h = cc
+last_fault e x (Some ns) h = absurd cc
+
+-- as many values have their form as there are
+pub length-form : {A : Type 0} (form : Data → Option A) (vs : List Value) (xs : List A)
+    → each form (elements (items_view vs)) ≡ Some xs → length xs ≡ length vs
+length-form form vs xs h = length-each form (elements (items_view vs)) xs h ∙ length-elements vs
+
+pub ruleset lengths = (length-form)

@@ -1,8 +1,8 @@
 -- Keys, and what a line denotes.
 use Rattle.std.proofs.Common.{◌≡◌, ℕ, List, [], ◌∷◌, ◌++◌, length, refl, arith, Ok, Err, Bool, true}
-use Rattle.std.proofs.Common.{false, ◌&&◌, inl, inr, ◌⊎◌, ◌∙◌}
+use Rattle.std.proofs.Common.{false, ◌&&◌, inl, inr, ◌⊎◌}
 use Rattle.std.proofs.lemmas.Bool.{cases_Bool}
-use Rattle.std.specs.Prelude.{Some, None, String, IsUtf8}
+use Rattle.std.specs.Prelude.{Option, Some, None, String, IsUtf8, IfOk, IsTrue, if◌then◌else◌}
 use Rattle.std.specs.declared.alloc.Global.{Global}
 use Rattle.std.specs.List.{list_all}
 use Rattle.std.specs.Str.{is_utf8}
@@ -13,7 +13,8 @@ use Rattle.serde_json.specs.declared.value.Value.{Value}
 use Rattle.serde_json.specs.View.{members_view}
 use Rattle.gf_json.specs.declared.line_error.LineError.{LineError}
 use Rattle.gf_json.specs.declared.line_error.LineError.TheVariants as fault
-use Rattle.gf_json.specs.LineValues.{Got, and_then}
+use Rattle.gf_json.specs.LineValues.{Got, and_then, within}
+use Rattle.gf_json.specs.Limited.{limited, ranged}
 use Rattle.gf_json.specs.LineKeys.{member_count}
 use Rattle.gf_json.specs.OperationLines.{json}
 
@@ -45,14 +46,40 @@ json-refused line r = elim (cases_Bool (is_utf8 line)) [
   | inr u ↦ rw u refl
 ]
 
--- what a line denotes, where memory serves; f reads its value part by part, and g says what it is
-pub denoted_by : {A B : Type 0} (f g : Data → Got A) → ((d : Data) → f d ≡ g d) → (line : List ℕ)
-    (d : Data) (b : B) (v : Got B) (r : Got A) → v ≡ Ok b
-    → (v ≡ Err fault.OutOfMemory) ⊎ (Ok d ≡ json line) → (r ≡ Err fault.OutOfMemory) ⊎ (r ≡ f d)
-    → (r ≡ Err fault.OutOfMemory) ⊎ (r ≡ and_then g (json line))
-denoted_by f g same line d b v r k (inl m) n = absurd cc
-denoted_by f g same line d b v r k (inr e) (inl m) = inl m
-denoted_by f g same line d b v r k (inr e) (inr w) = inr (rw (← e) (w ∙ same d))
+-- a broken limit is a fault
+ranged-limited : {A : Type 0} (keeps : A → Bool) (x : Option A)
+    → ranged (limited keeps x) ≡ within keeps x
+ranged-limited keeps None = refl
+ranged-limited {A = A} keeps (Some a) = by_test (keeps a)
+  where
+    by_test : (b : Bool) → ranged {A = A} (Ok (if b then Some a else None))
+        ≡ (if b then Ok a else Err fault.Range)
+    by_test true = refl
+    by_test false = refl
+
+-- what a line denotes, where memory serves; it is read as g says, and f says what it is
+pub denoted_by : {A B : Type 0} (keeps : A → Bool) (f g : Data → Option A)
+    → ((d : Data) → f d ≡ g d) → (line : List ℕ) (d : Data) (b : B) (v : Got B) (u : Got (Option A))
+    (r : Got A) → v ≡ Ok b → (v ≡ Err fault.OutOfMemory) ⊎ (Ok d ≡ json line)
+    → (u ≡ Err fault.OutOfMemory) ⊎ (u ≡ limited keeps (g d)) → r ≡ ranged u
+    → (r ≡ Err fault.OutOfMemory) ⊎ (r ≡ and_then (λ d. within keeps (f d)) (json line))
+denoted_by keeps f g same line d b v u r k (inl m) n e = absurd cc
+denoted_by keeps f g same line d b v u r k (inr h) (inl m) e = inl (rw (e, m) refl)
+denoted_by keeps f g same line d b v u r k (inr h) (inr w) e =
+    inr (rw (e, ← h, w, same d) (ranged-limited keeps (g d)))
+
+-- which keeps the limits
+pub denoted-within : {A : Type 0} (keeps : A → Bool) (x : Option A) (u : Got (Option A)) (r : Got A)
+    → (u ≡ Err fault.OutOfMemory) ⊎ (u ≡ limited keeps x) → r ≡ ranged u
+    → IfOk r (λ a. IsTrue (keeps a))
+denoted-within keeps x u r (inl m) e = rw (e, m) tt
+denoted-within keeps None u r (inr w) e = rw (e, w) tt
+denoted-within {A = A} keeps (Some a) u r (inr w) e = rw (e, w) (by_test (keeps a) refl)
+  where
+    by_test : (b : Bool) → keeps a ≡ b
+        → IfOk (ranged {A = A} (Ok (if b then Some a else None))) (λ a. IsTrue (keeps a))
+    by_test true t = rw t refl
+    by_test false t = tt
 
 -- and the fault of a line that is no JSON
 pub denoted_fault : {A B : Type 0} (f : Data → Got A) (line : List ℕ) (e : LineError) (v : Got B)

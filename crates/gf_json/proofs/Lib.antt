@@ -1,9 +1,8 @@
 pub mod ArrayLemmas
+pub mod ElementLemmas
 pub mod KeyLemmas
 pub mod FormLemmas
-pub mod FormListLemmas
-pub mod FormLineLemmas
-pub mod PointLemmas
+pub mod PartLemmas
 pub mod IdLemmas
 pub mod WrittenLemmas
 pub mod AgainLemmas

@@ -2,66 +2,58 @@
 -- words tell which line it is.
 use native.Mathlib.Omega.{arith}
 use Rattle.std.proofs.Common.{◌≡◌, [], ◌∷◌, ℕ, ◌+◌, ◌==◌, List, ◌++◌, length, refl, sym, ap, ◌∙◌}
-use Rattle.std.proofs.Common.{Ok, Err, Bool, true, false, ◌&&◌, ◌||◌, inl, inr, codes}
+use Rattle.std.proofs.Common.{Bool, true, false, ◌&&◌, inl, inr, codes}
 use Rattle.std.proofs.Common.{if◌then◌else◌}
-use Rattle.std.specs.Prelude.{Option, Some, None, is_some, option_and_then}
-use Rattle.std.specs.Option.{ok_or}
+use Rattle.std.specs.Prelude.{Option, Some, None, is_some, option_map, option_and_then}
 use Rattle.std.specs.List.{list_all}
 use Rattle.std.specs.Str.{bytes_eq}
-use Rattle.std.proofs.lemmas.Bool.{cases_Bool}
+use Rattle.std.proofs.lemmas.Bool.{and_parts, cases_Bool}
 use Rattle.std.proofs.lemmas.Slice.Eq.{bytes_eq-Decides}
 use Rattle.std.proofs.lemmas.List.{length-append}
+use Rattle.gf_plane.specs.declared.colour.Rgb.{Rgb}
+use Rattle.gf_plane.specs.declared.point.Point.{Point}
 use Rattle.gf_ops.specs.declared.op.OpId.{OpId}
 use Rattle.gf_ops.specs.declared.change.Form.{Form}
+use Rattle.gf_ops.specs.declared.change.Form.TheVariants.{Rect, Polygon, Circle, Ellipse}
 use Rattle.gf_ops.specs.declared.change.Change.{Change}
-use Rattle.gf_json.specs.declared.line_error.LineError.TheVariants as fault
+use Rattle.gf_ops.specs.declared.change.Change.TheVariants.{Create, Set}
+use Rattle.gf_ops.specs.declared.change.Value.{Value}
 use Rattle.serde_json.specs.Data.{Data, Members}
-use Rattle.serde_json.specs.Find.{get, as_str, as_object}
-use Rattle.gf_json.specs.LineValues.{Got, and_then}
-use Rattle.gf_json.specs.StepValues.{fault_beside, ◌&◌}
-use Rattle.gf_json.specs.StepFields.{at, id, past, site, object_member, aim, place_member, box_size}
-use Rattle.gf_json.specs.StepFields.{circle_size}
-use Rattle.gf_json.specs.StepFields.{ellipse_size, polygon_points, colour_member, layer, shown}
+use Rattle.serde_json.specs.Find.{get, as_bool, as_object, as_str}
+use Rattle.gf_json.specs.LineForms.{◌&◌, all, clock, hex_colour, ids, name, natural, pair, point, radius}
 use Rattle.gf_json.specs.LineKeys.{op_keys, author_keys, create_keys, set_keys, aimed_keys}
-use Rattle.gf_json.specs.LineKeys.{await_keys, has_count, has_exactly, is_word, says, member_count}
-use Rattle.gf_json.specs.StepChanges.{new_value, named_value, creation, setting, change}
-use Rattle.gf_json.specs.StepLines.{op_with, op_of}
-use Rattle.gf_json.specs.StepLines.{authored, awaited, script_of}
-use Rattle.gf_json.specs.ReadChanges.{tells, read_change}
+use Rattle.gf_json.specs.LineKeys.{await_keys, awaits, has_count, has_exactly, is_word, says, member_count}
+use Rattle.gf_json.specs.LineChanges.{at, change, creation, named_value, setting}
+use Rattle.gf_json.specs.OperationLines.{op_of}
+use Rattle.gf_json.specs.ScriptLines.{command_of, script_of}
+use Rattle.gf_json.specs.ReadChanges.{named_form, read_change, read_command, read_op, read_script}
+use Rattle.gf_json.specs.ReadChanges.{tells}
 use Rattle.gf_json.proofs.KeyLemmas.{list_all-append}
-use Rattle.gf_json.proofs.AgainLemmas.{both_true}
 
--- ---- a fault of form in either of two parts
-
-field_left : {A B : Type 0} (x : Got A) (y : Got B) → x ≡ Err fault.Field
-    → (x & y) ≡ Err fault.Field
-field_left {A = A} {B = B} x y h = rw h (beside y)
-  where
-    beside : (y : Got B) → fault_beside {A = B} {B = A × B} fault.Field y ≡ Err fault.Field
-    beside (Ok b) = refl
-    beside (Err fault.Json) = refl
-    beside (Err fault.Field) = refl
-    beside (Err fault.Range) = refl
-    beside (Err fault.OutOfMemory) = refl
+-- ---- both of two parts
 
 both_false : (b : Bool) → (b && false) ≡ false
 both_false true = refl
 both_false false = refl
 
-field_right : {A B : Type 0} (x : Got A) (y : Got B) → y ≡ Err fault.Field
-    → (x & y) ≡ Err fault.Field
-field_right (Ok a) y h = rw h refl
-field_right (Err e) y h = rw h refl
+-- without the first part
+none_left : {A B : Type 0} (x : Option A) (y : Option B) → x ≡ None → (x & y) ≡ None
+none_left x y h = rw h refl
+
+-- without the second
+none_right : {A B : Type 0} (x : Option A) (y : Option B) → y ≡ None → (x & y) ≡ None
+none_right None y h = refl
+none_right (Some a) y h = rw h refl
 
 -- ---- keys
 
-missing : {A : Type 0} (key : List ℕ) (form : Data → Got A) (d : Data) → is_some (get key d) ≡ false
-    → at key form d ≡ Err fault.Field
-missing key form d h = let e = nothing (get key d) h in rw e refl
+missing : {A : Type 0} (key : List ℕ) (form : Data → Option A) (d : Data)
+    → is_some (get key d) ≡ false → at key form d ≡ None
+missing key form d h = of_value (get key d) h
   where
-    nothing : (o : Option Data) → is_some o ≡ false → ok_or o fault.Field ≡ Err fault.Field
-    nothing None h = refl
-    nothing (Some v) h = absurd cc
+    of_value : (o : Option Data) → is_some o ≡ false → option_and_then form o ≡ None
+    of_value None h = refl
+    of_value (Some v) h = absurd cc
 
 -- P follows from each of the keys that is not there
 abbrev EachMissing : Data → Type 0 → List (List ℕ) → Type 0
@@ -112,45 +104,42 @@ unsaid : {P : Type 0} (key word : List ℕ) (d : Data) → says key word d ≡ t
     → is_some (get key d) ≡ false → P
 unsaid key word d s n = absurd (let m = says-missing key word d n in cc)
 
-creation-missing : (form : Got Form) (shape kind : List ℕ) (d : Data)
-    → says (codes "kind") kind d ≡ true → (is_some (get shape d) ≡ false → form ≡ Err fault.Field)
-    → list_all (λ key. is_some (get key d)) (create_keys shape) ≡ false
-    → creation form d ≡ Err fault.Field
-creation-missing form shape kind d k f h =
-    let e : (form & place_member d & colour_member d & layer d & shown d) ≡ Err fault.Field =
-    by_key d (create_keys shape) (
-      unsaid (codes "kind") kind d k,
-      (
-        (λ n. field_right form _ (field_left (place_member d) _ (missing (codes "place") _ d n))),
-        (
-          (λ n. field_left form _ (f n)),
-          (
-            (λ n. field_right form _
-                (field_right (place_member d) _
-                (field_left (colour_member d) _ (missing (codes "colour") _ d n)))),
-            (
-              (λ n. field_right form _
-                  (field_right (place_member d) _
-                  (field_right (colour_member d) _
-                  (field_left (layer d) _ (missing (codes "layer") _ d n))))),
-              (
-                (λ n. field_right form _
-                    (field_right (place_member d) _
-                    (field_right (colour_member d) _
-                    (field_right (layer d) _ (missing (codes "shown") _ d n))))),
-                tt,
-              ),
-            ),
-          ),
-        ),
-      ),
-    ) h in
-    rw e refl
+-- the keys are there
+abbrev are_there : List (List ℕ) → Data → Bool
+are_there keys d = list_all (λ key. is_some (get key d)) keys
 
-unnamed : (d : Data) → is_some (get (codes "set") d) ≡ false → new_value d ≡ Err fault.Field
+creation-lacks : (f : Option Form) (p s c l v : Option Data) (place : Data → Option Point)
+    (colour : Data → Option Rgb) (layer : Data → Option ℕ) (shown : Data → Option Bool)
+    → (is_some s ≡ false → f ≡ None)
+    → (is_some p && (is_some s && (is_some c && (is_some l && (is_some v && true))))) ≡ false
+    → option_map {U = Change} (λ (f, (p, (c, (l, s)))). Create
+    (record { form = f; place = p; colour = c; layer = l; shown = s }))
+    (f & option_and_then place p & option_and_then colour c & option_and_then layer l
+    & option_and_then shown v) ≡ None
+creation-lacks f p s c l v place colour layer shown e h = grind arith
+
+creation-missing : (form : Option Form) (shape kind : List ℕ) (d : Data)
+    → says (codes "kind") kind d ≡ true → (is_some (get shape d) ≡ false → form ≡ None)
+    → are_there (create_keys shape) d ≡ false → creation form d ≡ None
+creation-missing form shape kind d k f h = elim (cases_Bool (is_some (get (codes "kind") d))) [
+  | inl t ↦ creation-lacks form (get (codes "place") d) (get shape d) (get (codes "colour") d)
+      (get (codes "layer") d) (get (codes "shown") d) point hex_colour natural as_bool f (rw t at h)
+  | inr n ↦ unsaid (codes "kind") kind d k n
+]
+
+setting-lacks : (o n t : Option Data) (a : Option (List OpId)) (object : Data → Option OpId)
+    (value : Data → Option Value)
+    → (is_some n ≡ false → option_and_then value t ≡ None)
+    → (is_some o && (is_some n && (is_some t && true))) ≡ false
+    → option_map {U = Change} (λ (o, (v, ids)). Set (record { 0 = o }) v ids)
+    (option_and_then object o & option_and_then value t & a) ≡ None
+setting-lacks o n t a object value e h = grind arith
+
+unnamed : (d : Data) → is_some (get (codes "set") d) ≡ false
+    → at (codes "to") (named_value d) d ≡ None
 unnamed d n = of_value (get (codes "to") d)
   where
-    of_value : (o : Option Data) → and_then (named_value d) (ok_or o fault.Field) ≡ Err fault.Field
+    of_value : (o : Option Data) → option_and_then (named_value d) o ≡ None
     of_value None = refl
     of_value (Some v) = rw (
       says-missing (codes "set") (codes "place") d n,
@@ -161,203 +150,138 @@ unnamed d n = of_value (get (codes "to") d)
       says-missing (codes "set") (codes "shown") d n,
     ) refl
 
--- without one of the keys of a setting, whatever its aim is
-without_key : (g : Got (List OpId)) (d : Data)
-    → EachMissing d ((object_member d & new_value d & g) ≡ Err fault.Field) set_keys
-without_key g d = (
-  (λ n. field_left (object_member d) _ (rw (missing (codes "object") _ d n) refl)),
-  (
-    (λ n. field_right (object_member d) _ (field_left (new_value d) _ (unnamed d n))),
-    (
-      (λ n. field_right (object_member d) _
-          (field_left (new_value d) _ (missing (codes "to") _ d n))),
-      tt,
-    ),
-  ),
-)
+setting-missing : (aim : Option (List OpId)) (d : Data) → are_there set_keys d ≡ false
+    → setting aim d ≡ None
+setting-missing aim d h = setting-lacks (get (codes "object") d) (get (codes "set") d)
+    (get (codes "to") d) aim name (named_value d) (unnamed d) h
 
-setting-missing : (g : Got (List OpId)) (d : Data)
-    → list_all (λ key. is_some (get key d)) set_keys ≡ false
-    → setting (new_value d) g d ≡ Err fault.Field
-setting-missing g d h =
-    let e : (object_member d & new_value d & g) ≡ Err fault.Field = by_key d set_keys
-    (without_key g d) h
-    in
-    rw e refl
-
-aimed-missing : (d : Data) → list_all (λ key. is_some (get key d)) aimed_keys ≡ false
-    → setting (new_value d) (aim d) d ≡ Err fault.Field
-aimed-missing d h =
-    let e : (object_member d & new_value d & aim d) ≡ Err fault.Field =
-    by_key d aimed_keys (
-      (λ n. field_right (object_member d) _
-          (field_right (new_value d) _ (missing (codes "aim") _ d n))),
-      without_key (aim d) d,
-    ) h in
-    rw e refl
+aimed-missing : (d : Data) → are_there aimed_keys d ≡ false → setting (at (codes "aim") ids d) d ≡ None
+aimed-missing d h = elim (cases_Bool (is_some (get (codes "aim") d))) [
+  | inl t ↦ setting-missing (at (codes "aim") ids d) d (rw t at h)
+  | inr n ↦ rw (missing (codes "aim") ids d n) (no_aim (at (codes "object") name d) (at (codes "to") (named_value d) d))
+]
+  where
+    no_aim : (o : Option OpId) (v : Option Value) → option_map {U = Change}
+        (λ (o, (v, ids)). Set (record { 0 = o }) v ids) (o & v & None) ≡ None
+    no_aim None v = refl
+    no_aim (Some i) None = refl
+    no_aim (Some i) (Some v) = refl
 
 -- ---- which change
 
--- two kinds with the same keys, as one
-two_kinds : (A S K L : Bool) (b c x : Got Change)
-    → (if A && S && K then b else (if A && S && L then c else x)) ≡ (if A && S && (K || L) then
-    (if K then b else c) else x)
-two_kinds false S K L b c x = refl
-two_kinds true false K L b c x = refl
-two_kinds true true true L b c x = refl
-two_kinds true true false true b c x = refl
-two_kinds true true false false b c x = refl
-
-two_words : (K L : Bool) (b c x : Got Change)
-    → (if K then b else (if L then c else x)) ≡ (if K || L then (if K then b else c) else x)
-two_words true L b c x = refl
-two_words false true b c x = refl
-two_words false false b c x = refl
-
-missing_either : (K L P : Bool) (b c : Got Change) → (K ≡ true → P ≡ false → b ≡ Err fault.Field)
-    → (L ≡ true → P ≡ false → c ≡ Err fault.Field) → (K || L) ≡ true → P ≡ false
-    → (if K then b else c) ≡ Err fault.Field
-missing_either true L P b c f g h n = f refl n
-missing_either false L P b c f g h n = g h n
-
-word_either : (K L M : Bool) → (K ≡ true → M ≡ false) → (L ≡ true → M ≡ false) → (K || L) ≡ true
-    → M ≡ false
-word_either true L M f g h = f refl
-word_either false L M f g h = g h
-
--- of three kinds to create, or another line
-one_of : (C S K1 K2 K3 P1 P3 : Bool) (b c p x y : Got Change)
-    → (K1 ≡ true → P1 ≡ false → b ≡ Err fault.Field)
-    → (K2 ≡ true → P1 ≡ false → c ≡ Err fault.Field)
-    → (K3 ≡ true → P3 ≡ false → p ≡ Err fault.Field) → (C ≡ true → x ≡ Err fault.Field)
-    → (K1 ≡ true → K3 ≡ false) → (K2 ≡ true → K3 ≡ false) → x ≡ y
-    → (if (C && P1) && S && K1 then b else
-    (if (C && P1) && S && K2 then c else (if (C && P3) && S && K3 then p else x)))
-    ≡ (if C && S then (if K1 then b else (if K2 then c else (if K3 then p else Err fault.Field)))
-    else y)
-one_of false S K1 K2 K3 P1 P3 b c p x y f g h n e k t = t
-one_of true false K1 K2 K3 true true b c p x y f g h n e k t = t
-one_of true false K1 K2 K3 true false b c p x y f g h n e k t = t
-one_of true false K1 K2 K3 false true b c p x y f g h n e k t = t
-one_of true false K1 K2 K3 false false b c p x y f g h n e k t = t
-one_of true true true K2 K3 true P3 b c p x y f g h n e k t = refl
-one_of true true true K2 K3 false true b c p x y f g h n e k t = rw (e refl, f refl refl) (n refl)
-one_of true true true K2 K3 false false b c p x y f g h n e k t = n refl ∙ sym (f refl refl)
-one_of true true false true K3 true P3 b c p x y f g h n e k t = refl
-one_of true true false true K3 false true b c p x y f g h n e k t = rw (k refl, g refl refl)
-    (n refl)
-one_of true true false true K3 false false b c p x y f g h n e k t = n refl ∙ sym (g refl refl)
-one_of true true false false true true true b c p x y f g h n e k t = refl
-one_of true true false false true false true b c p x y f g h n e k t = refl
-one_of true true false false true true false b c p x y f g h n e k t = n refl ∙ sym (h refl refl)
-one_of true true false false true false false b c p x y f g h n e k t = n refl ∙ sym (h refl refl)
-one_of true true false false false true true b c p x y f g h n e k t = n refl
-one_of true true false false false false true b c p x y f g h n e k t = n refl
-one_of true true false false false true false b c p x y f g h n e k t = n refl
-one_of true true false false false false false b c p x y f g h n e k t = n refl
-
--- of four kinds, where the second and the third have the same keys
-one_of_four : (C S K1 K2 K3 K4 P1 P4 : Bool) (b c e p x y : Got Change)
-    → (K1 ≡ true → P1 ≡ false → b ≡ Err fault.Field)
-    → (K2 ≡ true → P1 ≡ false → c ≡ Err fault.Field)
-    → (K3 ≡ true → P1 ≡ false → e ≡ Err fault.Field)
-    → (K4 ≡ true → P4 ≡ false → p ≡ Err fault.Field) → (C ≡ true → x ≡ Err fault.Field)
-    → (K1 ≡ true → K4 ≡ false) → (K2 ≡ true → K4 ≡ false) → (K3 ≡ true → K4 ≡ false) → x ≡ y
+one_of_four : (C S K1 K2 K3 K4 P1 P4 : Bool) (b c e p x y : Option Change)
+    → (K1 ≡ true → P1 ≡ false → b ≡ None) → (K2 ≡ true → P1 ≡ false → c ≡ None)
+    → (K3 ≡ true → P1 ≡ false → e ≡ None) → (K4 ≡ true → P4 ≡ false → p ≡ None)
+    → (C ≡ true → x ≡ None) → (K1 ≡ true → K4 ≡ false) → (K2 ≡ true → K4 ≡ false)
+    → (K3 ≡ true → K4 ≡ false) → x ≡ y
     → (if (C && P1) && S && K1 then b else
     (if (C && P1) && S && K2 then c else
     (if (C && P1) && S && K3 then e else (if (C && P4) && S && K4 then p else x))))
     ≡ (if C && S then (if K1 then b else
-    (if K2 then c else (if K3 then e else (if K4 then p else Err fault.Field)))) else y)
-one_of_four C S K1 K2 K3 K4 P1 P4 b c e p x y f g h k l m n o t =
-    ap (λ (z : Got Change). if (C && P1) && S && K1 then b else z)
-    (two_kinds (C && P1) S K2 K3 c e (if (C && P4) && S && K4 then p else x))
-    ∙ (one_of C S K1 (K2 || K3) K4 P1 P4 b (if K2 then c else e) p x y f
-    (missing_either K2 K3 P1 c e g h) k l m (word_either K2 K3 K4 n o) t
-    ∙ ap (λ (z : Got Change). if C && S then (if K1 then b else z) else y)
-    (sym (two_words K2 K3 c e (if K4 then p else Err fault.Field))))
+    (if K2 then c else (if K3 then e else (if K4 then p else None)))) else y)
+one_of_four C S K1 K2 K3 K4 P1 P4 b c e p x y f g h k l m n o t = grind arith
 
--- of two settings
-one_setting : (T V Q R U : Bool) (s a : Got Change) → (Q ≡ false → s ≡ Err fault.Field)
-    → (R ≡ false → a ≡ Err fault.Field) → (T ≡ true → V ≡ false)
-    → (if (T && Q) && U then s else (if (V && R) && U then a else Err fault.Field)) ≡ (if T && U
-    then s else (if V && U then a else Err fault.Field))
-one_setting true true Q R U s a f g t = absurd (let n = t refl in cc)
-one_setting true false true R true s a f g t = refl
-one_setting true false true R false s a f g t = refl
-one_setting true false false R true s a f g t = sym (f refl)
-one_setting true false false R false s a f g t = refl
-one_setting false true Q true true s a f g t = refl
-one_setting false true Q true false s a f g t = refl
-one_setting false true Q false true s a f g t = sym (g refl)
-one_setting false true Q false false s a f g t = refl
-one_setting false false Q R U s a f g t = refl
+one_setting : (T V Q R U : Bool) (s a : Option Change) → (Q ≡ false → s ≡ None)
+    → (R ≡ false → a ≡ None) → (T ≡ true → V ≡ false)
+    → (if (T && Q) && U then s else (if (V && R) && U then a else None))
+    ≡ (if T && U then s else (if V && U then a else None))
+one_setting T V Q R U s a f g t = grind arith
 
--- a line with as many keys as one that creates is no setting
-no_setting : (T V Q R U : Bool) (s a : Got Change) → T ≡ false → V ≡ false
-    → (if (T && Q) && U then s else (if (V && R) && U then a else Err fault.Field)) ≡ Err
-    fault.Field
-no_setting T V Q R U s a h k = rw (h, k) refl
+-- a creation by its kind is a creation by the form of its kind
+creation-if : (b : Bool) (x y : Option Form) (d : Data)
+    → creation (if b then x else y) d ≡ (if b then creation x d else creation y d)
+creation-if true x y d = refl
+creation-if false x y d = refl
+
+creation-named_form : (d : Data) → creation (named_form d) d
+    ≡ (if says (codes "kind") (codes "box") d
+    then creation (option_map (λ p. Rect p.0 p.1) (at (codes "size") (pair natural) d)) d
+    else (if says (codes "kind") (codes "circle") d
+    then creation (option_map Circle (at (codes "size") radius d)) d
+    else (if says (codes "kind") (codes "ellipse") d
+    then creation (option_map (λ p. Ellipse p.0 p.1) (at (codes "size") (pair natural) d)) d
+    else (if says (codes "kind") (codes "polygon") d
+    then creation (option_map Polygon (at (codes "points") (all point) d)) d else None))))
+unfolding named_form
+creation-named_form d =
+    by_kind (says (codes "kind") (codes "box") d) (says (codes "kind") (codes "circle") d)
+    (says (codes "kind") (codes "ellipse") d) (says (codes "kind") (codes "polygon") d)
+    (option_map (λ p. Rect p.0 p.1) (at (codes "size") (pair natural) d))
+    (option_map Circle (at (codes "size") radius d))
+    (option_map (λ p. Ellipse p.0 p.1) (at (codes "size") (pair natural) d))
+    (option_map Polygon (at (codes "points") (all point) d))
+  where
+    by_kind : (k l m n : Bool) (x y z w : Option Form) → creation (if k then x else
+        (if l then y else (if m then z else (if n then w else None)))) d
+        ≡ (if k then creation x d else (if l then creation y d else (if m then creation z d
+        else (if n then creation w d else None))))
+    by_kind true l m n x y z w = refl
+    by_kind false true m n x y z w = refl
+    by_kind false false true n x y z w = refl
+    by_kind false false false true x y z w = refl
+    by_kind false false false false x y z w = refl
 
 -- where each key beside those of the change is there
-complete : (beside keys : List (List ℕ)) (d : Data)
-    → list_all (λ key. is_some (get key d)) beside ≡ true
-    → has_exactly (beside ++ keys)
-    d ≡ (has_count (length beside + length keys) (as_object d) && list_all
-    (λ key. is_some (get key d)) keys)
+complete : (beside keys : List (List ℕ)) (d : Data) → are_there beside d ≡ true
+    → has_exactly (beside ++ keys) d
+    ≡ (has_count (length beside + length keys) (as_object d) && are_there keys d)
 complete beside keys d h = rw (length-append, list_all-append, h) refl
 
-change-read : (verb : List ℕ) (beside : List (List ℕ)) (d : Data)
-    → list_all (λ key. is_some (get key d)) beside ≡ true
+change-read : (verb : List ℕ) (beside : List (List ℕ)) (d : Data) → are_there beside d ≡ true
     → change verb beside d ≡ read_change verb (length beside) d
+unfolding read_change
 change-read verb beside d h =
     let counts = other_count (length beside) in
-    let plain = setting (new_value d) (Ok []) d in
-    let aimed = setting (new_value d) (aim d) d in
+    let plain = setting (Some []) d in
+    let aimed = setting (at (codes "aim") ids d) d in
+    let creates = has_count (length beside + 6) (as_object d) in
     let has_plain = has_count (length beside + 3) (as_object d) in
     let has_aimed = has_count (length beside + 4) (as_object d) in
-    let all_plain = list_all (λ key. is_some (get key d)) set_keys in
-    let all_aimed = list_all (λ key. is_some (get key d)) aimed_keys in
+    let all_plain = are_there set_keys d in
+    let all_aimed = are_there aimed_keys d in
     let set = says verb (codes "set") d in
     rw (
       complete beside (create_keys (codes "size")) d h,
       complete beside (create_keys (codes "points")) d h,
       complete beside set_keys d h,
       complete beside aimed_keys d h,
+      creation-named_form d,
     )
-    (one_of_four (has_count (length beside + 6) (as_object d)) (says verb (codes "create") d)
+    (one_of_four creates (says verb (codes "create") d)
     (says (codes "kind") (codes "box") d) (says (codes "kind") (codes "circle") d)
     (says (codes "kind") (codes "ellipse") d) (says (codes "kind") (codes "polygon") d)
-    (list_all (λ key. is_some (get key d)) (create_keys (codes "size")))
-    (list_all (λ key. is_some (get key d)) (create_keys (codes "points")))
-    (creation (box_size d) d) (creation (circle_size d) d) (creation (ellipse_size d) d)
-    (creation (polygon_points d) d)
+    (are_there (create_keys (codes "size")) d) (are_there (create_keys (codes "points")) d)
+    (creation (option_map (λ p. Rect p.0 p.1) (at (codes "size") (pair natural) d)) d)
+    (creation (option_map Circle (at (codes "size") radius d)) d)
+    (creation (option_map (λ p. Ellipse p.0 p.1) (at (codes "size") (pair natural) d)) d)
+    (creation (option_map Polygon (at (codes "points") (all point) d)) d)
     (if (has_plain && all_plain) && set then plain else
-    (if (has_aimed && all_aimed) && set then aimed else Err fault.Field))
-    (if has_plain && set then plain else (if has_aimed && set then aimed else Err fault.Field))
-    (λ k. creation-missing (box_size d) (codes "size") (codes "box") d k
+    (if (has_aimed && all_aimed) && set then aimed else None))
+    (if has_plain && set then plain else (if has_aimed && set then aimed else None))
+    (λ k. creation-missing _ (codes "size") (codes "box") d k
     (λ n. rw (missing (codes "size") _ d n) refl))
-    (λ k. creation-missing (circle_size d) (codes "size") (codes "circle") d k
+    (λ k. creation-missing _ (codes "size") (codes "circle") d k
     (λ n. rw (missing (codes "size") _ d n) refl))
-    (λ k. creation-missing (ellipse_size d) (codes "size") (codes "ellipse") d k
+    (λ k. creation-missing _ (codes "size") (codes "ellipse") d k
     (λ n. rw (missing (codes "size") _ d n) refl))
-    (λ k. creation-missing (polygon_points d) (codes "points") (codes "polygon") d k
+    (λ k. creation-missing _ (codes "points") (codes "polygon") d k
     (λ n. rw (missing (codes "points") _ d n) refl))
-    (λ c. no_setting has_plain has_aimed all_plain all_aimed set plain aimed
-    (one_count _ _ (as_object d) c counts.0) (one_count _ _ (as_object d) c counts.1))
+    (λ c. rw (one_count _ _ (as_object d) c counts.0, one_count _ _ (as_object d) c counts.1) refl)
     (one_word (codes "kind") (codes "box") (codes "polygon") d refl)
     (one_word (codes "kind") (codes "circle") (codes "polygon") d refl)
     (one_word (codes "kind") (codes "ellipse") (codes "polygon") d refl)
-    (one_setting has_plain has_aimed all_plain all_aimed set plain aimed (setting-missing (Ok []) d)
-    (aimed-missing d) (λ c. one_count _ _ (as_object d) c counts.2)))
+    (one_setting has_plain has_aimed all_plain all_aimed set plain aimed
+    (setting-missing (Some []) d) (aimed-missing d)
+    (λ c. one_count _ _ (as_object d) c counts.2)))
 
 -- where one is not
-incomplete : (beside keys : List (List ℕ)) (d : Data)
-    → list_all (λ key. is_some (get key d)) beside ≡ false → has_exactly (beside ++ keys) d ≡ false
+incomplete : (beside keys : List (List ℕ)) (d : Data) → are_there beside d ≡ false
+    → has_exactly (beside ++ keys) d ≡ false
 incomplete beside keys d h = rw (list_all-append, h)
     (both_false (has_count (length (beside ++ keys)) (as_object d)))
 
-change-missing : (verb : List ℕ) (beside : List (List ℕ)) (d : Data)
-    → list_all (λ key. is_some (get key d)) beside ≡ false → change verb beside d ≡ Err fault.Field
+change-missing : (verb : List ℕ) (beside : List (List ℕ)) (d : Data) → are_there beside d ≡ false
+    → change verb beside d ≡ None
 change-missing verb beside d h =
     rw (
       incomplete beside (create_keys (codes "size")) d h,
@@ -369,7 +293,8 @@ change-missing verb beside d h =
 -- ---- operations and commands
 
 unread : (verb : List ℕ) (beside : ℕ) (d : Data) → is_some (get verb d) ≡ false
-    → read_change verb beside d ≡ Err fault.Field
+    → read_change verb beside d ≡ None
+unfolding read_change
 unread verb beside d n =
     rw (
       says-missing verb (codes "create") d n,
@@ -380,71 +305,80 @@ unread verb beside d n =
     ) refl
 
 -- the operation of a line
-pub op_of-read : (d : Data) → op_of d ≡ op_with (read_change (codes "op") 3 d) d
-op_of-read d = elim (cases_Bool (list_all (λ key. is_some (get key d)) op_keys)) [
+pub op_of-read : (d : Data) → op_of d ≡ read_op d
+op_of-read d = elim (cases_Bool (are_there op_keys d)) [
   | inl h ↦ rw (change-read (codes "op") op_keys d h) refl
   | inr h ↦
-      let none : (id d & past d & change (codes "op") op_keys d) ≡ Err fault.Field = field_right
-      (id d) _ (field_right (past d) _ (change-missing (codes "op") op_keys d h)) in
-      let e : (id d & past d & read_change (codes "op") 3 d) ≡ Err fault.Field =
+      let i = at (codes "id") name d in
+      let p = at (codes "past") clock d in
+      let none : (i & p & change (codes "op") op_keys d) ≡ None =
+      none_right i _ (none_right p _ (change-missing (codes "op") op_keys d h)) in
+      let e : (i & p & read_change (codes "op") 3 d) ≡ None =
       by_key d op_keys (
-        (λ n. field_right (id d) _ (field_right (past d) _ (unread (codes "op") 3 d n))),
+        (λ n. none_right i _ (none_right p _ (unread (codes "op") 3 d n))),
         (
-          (λ n. field_left (id d) _ (missing (codes "id") _ d n)),
-          ((λ n. field_right (id d) _ (field_left (past d) _ (missing (codes "past") _ d n))), tt),
+          (λ n. none_left i _ (missing (codes "id") _ d n)),
+          ((λ n. none_right i _ (none_left p _ (missing (codes "past") _ d n))), tt),
         ),
       ) h in
       rw (none, e) refl
 ]
 
--- the command of a line that makes a change
-pub authored-read : (d : Data) → authored (change (codes "do") author_keys d) d ≡ authored
-    (read_change (codes "do") 2 d) d
-authored-read d = elim (cases_Bool (list_all (λ key. is_some (get key d)) author_keys)) [
-  | inl h ↦ rw (change-read (codes "do") author_keys d h) refl
-  | inr h ↦
-      let none : (site d & change (codes "do") author_keys d) ≡ Err fault.Field = field_right
-      (site d) _ (change-missing (codes "do") author_keys d h) in
-      let e : (site d & read_change (codes "do") 2 d) ≡ Err fault.Field =
-      by_key d author_keys (
-        (λ n. field_right (site d) _ (unread (codes "do") 2 d n)),
-        ((λ n. field_left (site d) _ (missing (codes "site") _ d n)), tt),
-      ) h in
-      rw (none, e) refl
-]
-
 -- a line that waits has too few keys to make a change
-few_keys : (o : Option Members) → has_count 3 o ≡ true
-    → (has_count 8 o ≡ false) × (has_count 5 o ≡ false) × (has_count 6 o ≡ false)
-few_keys o h = (one_count 3 8 o h refl, one_count 3 5 o h refl, one_count 3 6 o h refl)
-
 no_change : (d : Data) → has_count 3 (as_object d) ≡ true
-    → change (codes "do") author_keys d ≡ Err fault.Field
-no_change d h = let n = few_keys (as_object d) h in rw (n.0, n.1, n.2) refl
+    → change (codes "do") author_keys d ≡ None
+no_change d h =
+    rw (
+      one_count 3 8 (as_object d) h refl,
+      one_count 3 5 (as_object d) h refl,
+      one_count 3 6 (as_object d) h refl,
+    ) refl
 
--- the command of a line that waits
-pub awaited-read : (d : Data) → tells 3 (codes "do") (codes "await") d ≡ true
-    → awaited d ≡ script_of d
-awaited-read d h = by_keys (list_all (λ key. is_some (get key d)) await_keys) refl
-  where
-    counted : has_count 3 (as_object d) ≡ true
-    counted = (both_true (has_count 3 (as_object d)) (says (codes "do") (codes "await") d) h).0
+no_await : (n s p : Bool) → (n && s) ≡ false → ((n && p) && s) ≡ false
+no_await n s p h = grind arith
 
-    said : says (codes "do") (codes "await") d ≡ true
-    said = (both_true (has_count 3 (as_object d)) (says (codes "do") (codes "await") d) h).1
+-- the command of a line, with its site
+command-read : (d : Data) → (at (codes "site") natural d & command_of d)
+    ≡ (at (codes "site") natural d & read_command d)
+unfolding read_command
+command-read d =
+    let s = at (codes "site") natural d in
+    let counts = has_count 3 (as_object d) in
+    let said = says (codes "do") (codes "await") d in
+    elim (cases_Bool (tells 3 (codes "do") (codes "await") d)) [
+      | inl t ↦
+          let parts = and_parts counts said t in
+          elim (cases_Bool (are_there await_keys d)) [
+            | inl h ↦ rw (parts.0, h, parts.1) refl
+            | inr h ↦
+                let none : command_of d ≡ None = rw (parts.0, h, no_change d parts.0) refl in
+                let e : (s & read_command d) ≡ None =
+                by_key d await_keys (
+                  unsaid (codes "do") (codes "await") d parts.1,
+                  (
+                    (λ n. none_left s _ (missing (codes "site") _ d n)),
+                    ((λ n. none_right s _ (rw (t, missing (codes "id") _ d n) refl)), tt),
+                  ),
+                ) h in
+                none_right s _ none ∙ sym e
+          ]
+      | inr f ↦
+          let makes : awaits d ≡ false = no_await counts said (are_there await_keys d) f in
+          elim (cases_Bool (are_there author_keys d)) [
+            | inl h ↦ rw (makes, f, change-read (codes "do") author_keys d h) refl
+            | inr h ↦
+                let none : command_of d ≡ None =
+                rw (makes, change-missing (codes "do") author_keys d h) refl in
+                let e : (s & read_command d) ≡ None =
+                by_key d author_keys (
+                  (λ n. none_right s _ (rw (f, unread (codes "do") 2 d n) refl)),
+                  ((λ n. none_left s _ (missing (codes "site") _ d n)), tt),
+                ) h in
+                none_right s _ none ∙ sym e
+          ]
+    ]
 
-    by_keys : (b : Bool) → list_all (λ key. is_some (get key d)) await_keys ≡ b
-        → awaited d ≡ script_of d
-    by_keys true e = rw (counted, e, said) refl
-    by_keys false e =
-        let none : (site d & change (codes "do") author_keys d) ≡ Err fault.Field = field_right
-        (site d) _ (no_change d counted) in
-        let parts : (site d & id d) ≡ Err fault.Field =
-        by_key d await_keys (
-          unsaid (codes "do") (codes "await") d said,
-          (
-            (λ n. field_left (site d) _ (missing (codes "site") _ d n)),
-            ((λ n. field_right (site d) _ (missing (codes "id") _ d n)), tt),
-          ),
-        ) e in
-        rw (counted, e, none, parts) refl
+-- the line of a script
+pub script_of-read : (d : Data) → script_of d ≡ read_script d
+script_of-read d =
+    ap (option_map (λ p. record { site = p.0; command = p.1 })) (command-read d)

@@ -1,34 +1,32 @@
 //! Operation lines, script lines, and lines that keep versions.
 
-ghost use Rattle.std.specs.Prelude.{◌≡◌, ◌⊎◌, Err, IfOk, IsTrue, codes};
+ghost use Rattle.std.specs.Prelude.{◌≡◌, ◌⊎◌, Err, IfOk, codes, option_map};
 ghost use Rattle.serde_json.specs.View.{view};
-ghost use Rattle.gf_ops.specs.Limits.{IsInRange, is_aim, is_change};
+ghost use Rattle.gf_ops.specs.Limits.{IsInRange, is_in_range};
 ghost use Rattle.gf_json.specs.LineValues.{mapped};
-ghost use Rattle.gf_json.specs.LineKeys.{author_keys};
-ghost use Rattle.gf_json.specs.StepChanges.{change};
-ghost use Rattle.gf_json.specs.StepLines.{op_with, op_of};
+ghost use Rattle.gf_json.specs.LineForms as form;
+ghost use Rattle.gf_json.specs.LineForms.{◌&◌};
+ghost use Rattle.gf_json.specs.LineChanges.{at};
 ghost use Rattle.gf_json.specs.OperationLines.{json, denoted};
-ghost use Rattle.gf_json.specs.StepLines.{authored, awaited, script_of};
+ghost use Rattle.gf_json.specs.ScriptLines.{IsScriptInRange, is_command, is_script};
 ghost use Rattle.gf_json.specs.ScriptLines.{script_denoted};
-ghost use Rattle.gf_json.specs.ScriptLines.{IsScriptInRange};
-ghost use Rattle.gf_json.specs.StepLines.{keep_of, kept, kept_with};
-ghost use Rattle.gf_json.specs.KeepLines.{IsKeepInRange, keep_denoted};
+ghost use Rattle.gf_json.specs.KeepLines.{IsKeepInRange, is_keep, keep_of, keep_denoted};
+ghost use Rattle.gf_json.specs.ReadChanges.{read_command, read_op, read_script};
+ghost use Rattle.gf_json.specs.Limited.{limited, ranged};
 
 mod aims;
 mod changes;
-mod colours;
-mod fields;
 mod keys;
 mod points;
 mod values;
 
+use crate::reading::aims::ids;
 use crate::reading::changes::change;
-use crate::reading::fields::{id, object, past, site, with_ids};
 use crate::reading::keys::tells;
 pub use crate::reading::keys::{has_count, says};
-use crate::reading::values::both;
+use crate::reading::values::{clock, name, site};
 use crate::{Command, KeepLine, LineError, ScriptLine};
-use gf_ops::{Change, Ids, Op};
+use gf_ops::{Change, Clock, Ids, ObjectId, Op, OpId};
 use serde_json::Value;
 use std::alloc::Global;
 
@@ -38,7 +36,7 @@ pub fn read_op(alloc: Global, line: &[u8]) -> Result<Op, LineError>
     ensures in_range { IfOk result (λ op. IsInRange op) }
 {
     match json(alloc, line) {
-        Ok(value) => op_of(alloc, &value),
+        Ok(value) => ranged(op_of(alloc, &value)),
         Err(fault) => Err(fault),
     }
 }
@@ -49,7 +47,7 @@ pub fn read_script(alloc: Global, line: &[u8]) -> Result<ScriptLine, LineError>
     ensures in_range { IfOk result (λ s. IsScriptInRange s) }
 {
     match json(alloc, line) {
-        Ok(value) => script_of(alloc, &value),
+        Ok(value) => ranged(script_of(alloc, &value)),
         Err(fault) => Err(fault),
     }
 }
@@ -60,7 +58,18 @@ pub fn read_keep(alloc: Global, line: &[u8]) -> Result<KeepLine, LineError>
     ensures in_range { IfOk result (λ k. IsKeepInRange k) }
 {
     match json(alloc, line) {
-        Ok(value) => keep_of(alloc, &value),
+        Ok(value) => ranged(keep_of(alloc, &value)),
+        Err(fault) => Err(fault),
+    }
+}
+
+/// What is read, where a broken limit is a fault.
+fn ranged<A: Drop>(read: Result<Option<A>, LineError>) -> Result<A, LineError>
+    ensures { result ≡ ranged read }
+{
+    match read {
+        Ok(Some(value)) => Ok(value),
+        Ok(None) => Err(LineError::Range),
         Err(fault) => Err(fault),
     }
 }
@@ -81,77 +90,62 @@ fn json(alloc: Global, line: &[u8]) -> Result<Value, LineError>
     }
 }
 
-fn op_of(alloc: Global, line: &Value) -> Result<Op, LineError>
-    ensures value { (result ≡ Err LineError.OutOfMemory) ⊎ (result ≡ op_of (view line.now)) }
-    ensures in_range { IfOk result (λ op. IsInRange op) }
+fn op_of(alloc: Global, line: &Value) -> Result<Option<Op>, LineError>
+    ensures { (result ≡ Err LineError.OutOfMemory)
+        ⊎ (result ≡ limited is_in_range (read_op (view line.now))) }
 {
-    match change(alloc, line, "op", 3) {
-        Err(LineError::OutOfMemory) => Err(LineError::OutOfMemory),
-        change => op_with(change, line),
-    }
+    let id = name(line.get("id"))?;
+    let past = clock(line.get("past"))?;
+    let change = change(alloc, line, "op", 3)?;
+    Ok(op(id, past, change))
 }
 
-/// The operation that makes this change.
-fn op_with(change: Result<Change, LineError>, line: &Value) -> Result<Op, LineError>
-    requires { IfOk change (λ c. IsTrue (is_change c)) }
-    ensures value { result ≡ op_with change (view line.now) }
-    ensures in_range { IfOk result (λ op. IsInRange op) }
+/// The operation of these parts.
+fn op(id: Option<OpId>, past: Option<Clock>, change: Option<Change>) -> Option<Op>
+    ensures { result ≡ option_map (λ (i, (known, new)). record { id = i; past = known; change = new })
+        (id & past & change) }
 {
-    let (id, (past, change)) = both(id(line), both(past(line), change))?;
-    Ok(Op { id, past, change })
+    Some(Op {
+        id: id?,
+        past: past?,
+        change: change?,
+    })
 }
 
-fn script_of(alloc: Global, line: &Value) -> Result<ScriptLine, LineError>
-    ensures value { (result ≡ Err LineError.OutOfMemory) ⊎ (result ≡ script_of (view line.now)) }
-    ensures in_range { IfOk result (λ s. IsScriptInRange s) }
+fn script_of(alloc: Global, line: &Value) -> Result<Option<ScriptLine>, LineError>
+    ensures { (result ≡ Err LineError.OutOfMemory)
+        ⊎ (result ≡ limited is_script (read_script (view line.now))) }
+{
+    let site = site(line.get("site"))?;
+    let command = command(alloc, line)?;
+    Ok(script(site, command))
+}
+
+/// The command to this site.
+fn script(site: Option<u8>, command: Option<Command>) -> Option<ScriptLine>
+    ensures { result ≡ option_map (λ p. record { site = p.0; command = p.1 }) (site & command) }
+{
+    Some(ScriptLine {
+        site: site?,
+        command: command?,
+    })
+}
+
+#[tactic(auto, unfolding(crate::specs::ReadChanges::read_command))]
+fn command(alloc: Global, line: &Value) -> Result<Option<Command>, LineError>
+    ensures { (result ≡ Err LineError.OutOfMemory)
+        ⊎ (result ≡ limited is_command (read_command (view line.now))) }
 {
     if tells(line, 3, "do", "await") {
-        awaited(line)
+        Ok(name(line.get("id"))?.map(Command::Await))
     } else {
-        authoring(alloc, line)
+        Ok(change(alloc, line, "do", 2)?.map(Command::Author))
     }
 }
 
-/// The command to wait for an operation.
-fn awaited(line: &Value) -> Result<ScriptLine, LineError>
-    ensures value { result ≡ awaited (view line.now) }
-    ensures in_range { IfOk result (λ s. IsScriptInRange s) }
-{
-    let (site, id) = both(site(line), id(line))?;
-    Ok(ScriptLine {
-        site,
-        command: Command::Await(id),
-    })
-}
-
-/// The command to make a change.
-fn authoring(alloc: Global, line: &Value) -> Result<ScriptLine, LineError>
-    ensures value { (result ≡ Err LineError.OutOfMemory)
-        ⊎ (result ≡ authored (change (codes "do") author_keys (view line.now)) (view line.now)) }
-    ensures in_range { IfOk result (λ s. IsScriptInRange s) }
-{
-    match change(alloc, line, "do", 2) {
-        Err(LineError::OutOfMemory) => Err(LineError::OutOfMemory),
-        change => authored(change, line),
-    }
-}
-
-/// The command to make this change.
-fn authored(change: Result<Change, LineError>, line: &Value) -> Result<ScriptLine, LineError>
-    requires { IfOk change (λ c. IsTrue (is_change c)) }
-    ensures value { result ≡ authored change (view line.now) }
-    ensures in_range { IfOk result (λ s. IsScriptInRange s) }
-{
-    let (site, change) = both(site(line), change)?;
-    Ok(ScriptLine {
-        site,
-        command: Command::Author(change),
-    })
-}
-
-fn keep_of(alloc: Global, line: &Value) -> Result<KeepLine, LineError>
-    ensures value { (result ≡ Err LineError.OutOfMemory) ⊎ (result ≡ keep_of (view line.now)) }
-    ensures in_range { IfOk result (λ k. IsKeepInRange k) }
+fn keep_of(alloc: Global, line: &Value) -> Result<Option<KeepLine>, LineError>
+    ensures { (result ≡ Err LineError.OutOfMemory)
+        ⊎ (result ≡ limited is_keep (keep_of (view line.now))) }
 {
     if tells(line, 4, "do", "keep") {
         kept(alloc, line)
@@ -161,22 +155,28 @@ fn keep_of(alloc: Global, line: &Value) -> Result<KeepLine, LineError>
 }
 
 /// What a line of four keys keeps.
-fn kept(alloc: Global, line: &Value) -> Result<KeepLine, LineError>
-    ensures value { (result ≡ Err LineError.OutOfMemory) ⊎ (result ≡ kept (view line.now)) }
-    ensures in_range { IfOk result (λ k. IsKeepInRange k) }
+fn kept(alloc: Global, line: &Value) -> Result<Option<KeepLine>, LineError>
+    ensures { (result ≡ Err LineError.OutOfMemory)
+        ⊎ (result ≡ limited is_keep (option_map
+        (λ p. record { site = p.0; object = record { 0 = p.1.0 }; with = p.1.1 })
+        (at (codes "site") form.natural (view line.now) & at (codes "object") form.name (view line.now)
+        & at (codes "with") form.ids (view line.now)))) }
 {
-    match with_ids(alloc, line) {
-        Err(LineError::OutOfMemory) => Err(LineError::OutOfMemory),
-        with => kept_with(with, line),
-    }
+    let site = site(line.get("site"))?;
+    let object = name(line.get("object"))?;
+    let with = ids(alloc, line.get("with"))?;
+    Ok(keep(site, object, with))
 }
 
-/// What a line keeps that names these ids.
-fn kept_with(with: Result<Ids, LineError>, line: &Value) -> Result<KeepLine, LineError>
-    requires { IfOk with (λ is. IsTrue (is_aim is)) }
-    ensures value { result ≡ kept_with with (view line.now) }
-    ensures in_range { IfOk result (λ k. IsKeepInRange k) }
+/// The site, the object and the ids.
+fn keep(site: Option<u8>, object: Option<OpId>, with: Option<Ids>) -> Option<KeepLine>
+    ensures { result ≡ option_map
+        (λ p. record { site = p.0; object = record { 0 = p.1.0 }; with = p.1.1 })
+        (site & object & with) }
 {
-    let (site, (object, with)) = both(site(line), both(object(line), with))?;
-    Ok(KeepLine { site, object, with })
+    Some(KeepLine {
+        site: site?,
+        object: ObjectId(object?),
+        with: with?,
+    })
 }

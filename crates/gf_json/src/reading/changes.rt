@@ -1,44 +1,42 @@
 //! The change that a line denotes.
 
-ghost use Rattle.std.specs.Prelude.{◌≡◌, ◌≤◌, ◌⊎◌, ◌&&◌, [], Ok, Err, IfOk, IsTrue};
+ghost use Rattle.std.specs.Prelude.{◌≡◌, ◌≤◌, ◌⊎◌, ◌&&◌, [], Err, codes, option_map};
 ghost use Rattle.serde_json.specs.View.{view};
-ghost use Rattle.gf_ops.specs.Limits.{is_aim, is_change, is_colour, is_form, is_layer, is_start};
-ghost use Rattle.gf_ops.specs.Limits.{is_value};
-ghost use Rattle.gf_json.specs.StepValues.{◌&◌};
-ghost use Rattle.gf_json.specs.StepFields.{aim, polygon_points, colour_member, layer, shown};
-ghost use Rattle.gf_json.specs.StepChanges.{start, named_value, new_value, creation, setting};
-ghost use Rattle.gf_json.specs.ReadChanges.{named_creation, read_change};
+ghost use Rattle.serde_json.specs.Find.{as_bool};
+ghost use Rattle.gf_ops.specs.Limits.{is_change, is_colour, is_form, is_layer, is_value};
+ghost use Rattle.gf_ops.specs.declared.change.Value.TheVariants as attribute;
+ghost use Rattle.gf_json.specs.LineForms as form;
+ghost use Rattle.gf_json.specs.LineForms.{◌&◌};
+ghost use Rattle.gf_json.specs.LineChanges.{at, creation, named_value, setting};
+ghost use Rattle.gf_json.specs.ReadChanges.{named_form, read_change};
+ghost use Rattle.gf_json.specs.Limited.{limited};
 
 use crate::LineError;
-use crate::reading::colours::hex_colour;
-use crate::reading::fields::{
-    aim, box_size, circle_size, colour, ellipse_size, layer, object, place, polygon_points, shown,
-    value_at,
-};
+use crate::reading::aims::ids;
 use crate::reading::keys::{is_word, tells, word_at};
 use crate::reading::points::points;
-use crate::reading::values::{both, level, point, size, truth};
-use gf_ops::{Change, Form, Ids, Start};
-use gf_plane::Rgb;
+use crate::reading::values::{hex_colour, level, name, point, radius, size, truth};
+use gf_ops::{Change, Form, Ids, ObjectId, OpId, Start};
+use gf_plane::{Point, Rgb};
 use serde_json::Value;
 use std::alloc::Global;
 
 /// The change of a line with its verb at this key, and this many keys beside those of the change.
 /// The number of keys and the words show which line it is. A missing key is a fault of form where
 /// it is read.
+#[tactic(auto, unfolding(crate::specs::ReadChanges::read_change))]
 pub(crate) fn change(
     alloc: Global,
     line: &Value,
     verb: &str,
     beside: usize,
-) -> Result<Change, LineError>
+) -> Result<Option<Change>, LineError>
     requires { beside ≤ 3 }
-    ensures value { (result ≡ Err LineError.OutOfMemory)
-        ⊎ (result ≡ read_change verb.now beside (view line.now)) }
-    ensures in_range { IfOk result (λ c. IsTrue (is_change c)) }
+    ensures { (result ≡ Err LineError.OutOfMemory)
+        ⊎ (result ≡ limited is_change (read_change verb.now beside (view line.now))) }
 {
     if tells(line, beside + 6, verb, "create") {
-        named_creation(alloc, line)
+        created(alloc, line)
     } else if tells(line, beside + 3, verb, "set") {
         set(alloc, line)
     } else if tells(line, beside + 4, verb, "set") {
@@ -49,157 +47,209 @@ pub(crate) fn change(
 }
 
 /// The change that creates an object of the kind that the line names.
-fn named_creation(alloc: Global, line: &Value) -> Result<Change, LineError>
-    ensures value { (result ≡ Err LineError.OutOfMemory)
-        ⊎ (result ≡ named_creation (view line.now)) }
-    ensures in_range { IfOk result (λ c. IsTrue (is_change c)) }
+fn created(alloc: Global, line: &Value) -> Result<Option<Change>, LineError>
+    ensures { (result ≡ Err LineError.OutOfMemory)
+        ⊎ (result ≡ limited is_change (creation (named_form (view line.now)) (view line.now))) }
 {
-    let kind = word_at(line, "kind");
-    if is_word(kind, "box") {
-        creation(box_size(line), line)
-    } else if is_word(kind, "circle") {
-        creation(circle_size(line), line)
-    } else if is_word(kind, "ellipse") {
-        creation(ellipse_size(line), line)
-    } else if is_word(kind, "polygon") {
-        polygon_creation(alloc, line)
-    } else {
-        Err(LineError::Field)
-    }
+    let place = point(line.get("place"))?;
+    let look = look(line)?;
+    let form = named_form(alloc, line)?;
+    Ok(creation(form, place, look))
 }
 
-/// The change that creates a polygon.
-fn polygon_creation(alloc: Global, line: &Value) -> Result<Change, LineError>
-    ensures value { (result ≡ Err LineError.OutOfMemory)
-        ⊎ (result ≡ creation (polygon_points (view line.now)) (view line.now)) }
-    ensures in_range { IfOk result (λ c. IsTrue (is_change c)) }
+/// The change that creates an object of these parts.
+fn creation(
+    form: Option<Form>,
+    place: Option<Point>,
+    look: Option<(Rgb, (u16, bool))>,
+) -> Option<Change>
+    ensures { result ≡ option_map (λ (f, (p, (c, (l, s)))). Change.Create
+        (record { form = f; place = p; colour = c; layer = l; shown = s })) (form & place & look) }
 {
-    match polygon_points(alloc, line) {
-        Err(LineError::OutOfMemory) => Err(LineError::OutOfMemory),
-        form => creation(form, line),
-    }
-}
-
-/// The change that creates an object of this form.
-fn creation(form: Result<Form, LineError>, line: &Value) -> Result<Change, LineError>
-    requires { IfOk form (λ f. IsTrue (is_form f)) }
-    ensures value { result ≡ creation form (view line.now) }
-    ensures in_range { IfOk result (λ c. IsTrue (is_change c)) }
-{
-    let start = start(form, line)?;
-    Ok(Change::Create(start))
-}
-
-fn start(form: Result<Form, LineError>, line: &Value) -> Result<Start, LineError>
-    requires { IfOk form (λ f. IsTrue (is_form f)) }
-    ensures value { result ≡ start form (view line.now) }
-    ensures in_range { IfOk result (λ s. IsTrue (is_start s)) }
-{
-    let (form, (place, look)) = both(form, both(place(line), look(line)))?;
-    let (colour, (layer, shown)) = look;
-    Ok(Start {
-        form,
-        place,
+    let (colour, (layer, shown)) = look?;
+    Some(Change::Create(Start {
+        form: form?,
+        place: place?,
         colour,
         layer,
         shown,
-    })
+    }))
 }
 
-fn look(line: &Value) -> Result<(Rgb, (u16, bool)), LineError>
-    ensures value { result ≡ (colour_member (view line.now) & layer (view line.now) & shown
-        (view line.now)) }
-    ensures colour { IfOk result (λ l. IsTrue (is_colour l.0)) }
-    ensures layer { IfOk result (λ l. IsTrue (is_layer l.1.0)) }
+/// The colour and the layer of a new object, and whether it is shown.
+fn look(line: &Value) -> Result<Option<(Rgb, (u16, bool))>, LineError>
+    ensures { result ≡ limited (λ l. is_colour l.0 && is_layer l.1.0)
+        (at (codes "colour") form.hex_colour (view line.now)
+        & at (codes "layer") form.natural (view line.now)
+        & at (codes "shown") as_bool (view line.now)) }
 {
-    both(colour(line), both(layer(line), shown(line)))
+    let Some(colour) = hex_colour(line.get("colour")) else {
+        return Err(LineError::Field);
+    };
+    let layer = level(line.get("layer"))?;
+    let Some(shown) = truth(line.get("shown")) else {
+        return Err(LineError::Field);
+    };
+    match layer {
+        Some(layer) => Ok(Some((colour, (layer, shown)))),
+        None => Ok(None),
+    }
+}
+
+/// The form of the kind that the line names.
+#[tactic(auto, unfolding(crate::specs::ReadChanges::named_form))]
+fn named_form(alloc: Global, line: &Value) -> Result<Option<Form>, LineError>
+    ensures { (result ≡ Err LineError.OutOfMemory)
+        ⊎ (result ≡ limited is_form (named_form (view line.now))) }
+{
+    let kind = word_at(line, "kind");
+    if is_word(kind, "box") {
+        rect(line)
+    } else if is_word(kind, "circle") {
+        circle(line)
+    } else if is_word(kind, "ellipse") {
+        ellipse(line)
+    } else if is_word(kind, "polygon") {
+        polygon(alloc, line)
+    } else {
+        Err(LineError::Field)
+    }
+}
+
+fn rect(line: &Value) -> Result<Option<Form>, LineError>
+    ensures { result ≡ limited is_form
+        (option_map (λ p. Form.Rect p.0 p.1)
+        (at (codes "size") (form.pair form.natural) (view line.now))) }
+{
+    match size(line.get("size"))? {
+        Some((width, height)) => Ok(Some(Form::Rect(width, height))),
+        None => Ok(None),
+    }
+}
+
+fn circle(line: &Value) -> Result<Option<Form>, LineError>
+    ensures { result ≡ limited is_form
+        (option_map Form.Circle (at (codes "size") form.radius (view line.now))) }
+{
+    Ok(radius(line.get("size"))?.map(Form::Circle))
+}
+
+fn ellipse(line: &Value) -> Result<Option<Form>, LineError>
+    ensures { result ≡ limited is_form
+        (option_map (λ p. Form.Ellipse p.0 p.1)
+        (at (codes "size") (form.pair form.natural) (view line.now))) }
+{
+    match size(line.get("size"))? {
+        Some((rx, ry)) => Ok(Some(Form::Ellipse(rx, ry))),
+        None => Ok(None),
+    }
+}
+
+fn polygon(alloc: Global, line: &Value) -> Result<Option<Form>, LineError>
+    ensures { (result ≡ Err LineError.OutOfMemory)
+        ⊎ (result ≡ limited is_form
+        (option_map Form.Polygon (at (codes "points") (form.all form.point) (view line.now)))) }
+{
+    Ok(points(alloc, line.get("points"))?.map(Form::Polygon))
 }
 
 /// The change that sets an attribute, and aims at no operation.
-fn set(alloc: Global, line: &Value) -> Result<Change, LineError>
-    ensures value { (result ≡ Err LineError.OutOfMemory)
-        ⊎ (result ≡ setting (new_value (view line.now)) (Ok []) (view line.now)) }
-    ensures in_range { IfOk result (λ c. IsTrue (is_change c)) }
+fn set(alloc: Global, line: &Value) -> Result<Option<Change>, LineError>
+    ensures { (result ≡ Err LineError.OutOfMemory)
+        ⊎ (result ≡ limited is_change (setting (Some []) (view line.now))) }
 {
-    match new_value(alloc, line) {
-        Err(LineError::OutOfMemory) => Err(LineError::OutOfMemory),
-        value => setting(value, Ok(Ids::new(Vec::new(alloc))), line),
-    }
+    let object = name(line.get("object"))?;
+    let value = new_value(alloc, line)?;
+    Ok(setting(object, value, Some(Ids::new(Vec::new(alloc)))))
 }
 
 /// The change that sets an attribute, and aims at the operations that the line names.
-fn aimed_set(alloc: Global, line: &Value) -> Result<Change, LineError>
-    ensures value { (result ≡ Err LineError.OutOfMemory)
-        ⊎ (result ≡ setting (new_value (view line.now)) (aim (view line.now)) (view line.now)) }
-    ensures in_range { IfOk result (λ c. IsTrue (is_change c)) }
+fn aimed_set(alloc: Global, line: &Value) -> Result<Option<Change>, LineError>
+    ensures { (result ≡ Err LineError.OutOfMemory)
+        ⊎ (result ≡ limited is_change
+        (setting (at (codes "aim") form.ids (view line.now)) (view line.now))) }
 {
-    match new_value(alloc, line) {
-        Err(LineError::OutOfMemory) => Err(LineError::OutOfMemory),
-        value => aimed_setting(alloc, value, line),
+    let object = name(line.get("object"))?;
+    let aim = ids(alloc, line.get("aim"))?;
+    let value = new_value(alloc, line)?;
+    Ok(setting(object, value, aim))
+}
+
+/// The change that sets an attribute of this object to this value, aimed at these operations.
+fn setting(object: Option<OpId>, value: Option<gf_ops::Value>, aim: Option<Ids>) -> Option<Change>
+    ensures { result ≡ option_map (λ (o, (v, ids)). Change.Set (record { 0 = o }) v ids)
+        (object & value & aim) }
+{
+    Some(Change::Set {
+        object: ObjectId(object?),
+        value: value?,
+        aim: aim?,
+    })
+}
+
+fn new_value(alloc: Global, line: &Value) -> Result<Option<gf_ops::Value>, LineError>
+    ensures { (result ≡ Err LineError.OutOfMemory)
+        ⊎ (result ≡ limited is_value
+        (at (codes "to") (named_value (view line.now)) (view line.now))) }
+{
+    match line.get("to") {
+        Some(value) => named_value(alloc, line, value),
+        None => Err(LineError::Field),
     }
-}
-
-/// The change that sets an attribute to this value, and aims at the operations that the line
-/// names.
-fn aimed_setting(
-    alloc: Global,
-    value: Result<gf_ops::Value, LineError>,
-    line: &Value,
-) -> Result<Change, LineError>
-    requires { IfOk value (λ v. IsTrue (is_value v)) }
-    ensures value { (result ≡ Err LineError.OutOfMemory)
-        ⊎ (result ≡ setting value (aim (view line.now)) (view line.now)) }
-    ensures in_range { IfOk result (λ c. IsTrue (is_change c)) }
-{
-    match aim(alloc, line) {
-        Err(LineError::OutOfMemory) => Err(LineError::OutOfMemory),
-        aim => setting(value, aim, line),
-    }
-}
-
-/// The change that sets an attribute to this value, and aims at these operations.
-fn setting(
-    value: Result<gf_ops::Value, LineError>,
-    aim: Result<Ids, LineError>,
-    line: &Value,
-) -> Result<Change, LineError>
-    requires value { IfOk value (λ v. IsTrue (is_value v)) }
-    requires aim { IfOk aim (λ is. IsTrue (is_aim is)) }
-    ensures value { result ≡ setting value aim (view line.now) }
-    ensures in_range { IfOk result (λ c. IsTrue (is_change c)) }
-{
-    let (object, (value, aim)) = both(object(line), both(value, aim))?;
-    Ok(Change::Set { object, value, aim })
-}
-
-fn new_value(alloc: Global, line: &Value) -> Result<gf_ops::Value, LineError>
-    ensures value { (result ≡ Err LineError.OutOfMemory) ⊎ (result ≡ new_value (view line.now)) }
-    ensures in_range { IfOk result (λ v. IsTrue (is_value v)) }
-{
-    named_value(alloc, line, value_at(line, "to")?)
 }
 
 /// The value in the form of the attribute that the line names.
-fn named_value(alloc: Global, line: &Value, value: &Value) -> Result<gf_ops::Value, LineError>
-    ensures value { (result ≡ Err LineError.OutOfMemory)
-        ⊎ (result ≡ named_value (view line.now) (view value.now)) }
-    ensures in_range { IfOk result (λ v. IsTrue (is_value v)) }
+fn named_value(
+    alloc: Global,
+    line: &Value,
+    value: &Value,
+) -> Result<Option<gf_ops::Value>, LineError>
+    ensures { (result ≡ Err LineError.OutOfMemory)
+        ⊎ (result ≡ limited is_value (named_value (view line.now) (view value.now))) }
 {
     let name = word_at(line, "set");
     if is_word(name, "place") {
-        point(value).map(gf_ops::Value::Place)
+        Ok(point(Some(value))?.map(gf_ops::Value::Place))
     } else if is_word(name, "points") {
-        points(alloc, value).map(gf_ops::Value::Points)
+        Ok(points(alloc, Some(value))?.map(gf_ops::Value::Points))
     } else if is_word(name, "size") {
-        let (width, height) = size(value)?;
-        Ok(gf_ops::Value::Size(width, height))
+        size_value(value)
     } else if is_word(name, "colour") {
-        hex_colour(value).map(gf_ops::Value::Colour)
+        colour_value(value)
     } else if is_word(name, "layer") {
-        level(value).map(gf_ops::Value::Layer)
+        Ok(level(Some(value))?.map(gf_ops::Value::Layer))
     } else if is_word(name, "shown") {
-        truth(value).map(gf_ops::Value::Shown)
+        shown_value(value)
     } else {
         Err(LineError::Field)
+    }
+}
+
+fn size_value(value: &Value) -> Result<Option<gf_ops::Value>, LineError>
+    ensures { result ≡ limited is_value
+        (option_map (λ s. attribute.Size s.0 s.1) (form.pair form.natural (view value.now))) }
+{
+    match size(Some(value))? {
+        Some((width, height)) => Ok(Some(gf_ops::Value::Size(width, height))),
+        None => Ok(None),
+    }
+}
+
+fn colour_value(value: &Value) -> Result<Option<gf_ops::Value>, LineError>
+    ensures { result ≡ limited is_value
+        (option_map attribute.Colour (form.hex_colour (view value.now))) }
+{
+    match hex_colour(Some(value)) {
+        Some(colour) => Ok(Some(gf_ops::Value::Colour(colour))),
+        None => Err(LineError::Field),
+    }
+}
+
+fn shown_value(value: &Value) -> Result<Option<gf_ops::Value>, LineError>
+    ensures { result ≡ limited is_value (option_map attribute.Shown (as_bool (view value.now))) }
+{
+    match truth(Some(value)) {
+        Some(shown) => Ok(Some(gf_ops::Value::Shown(shown))),
+        None => Err(LineError::Field),
     }
 }

@@ -1,196 +1,249 @@
-//! The values of a line: forms and limits.
+//! The values of a line: their forms, and within these their limits.
 
-ghost use Rattle.std.specs.Prelude.{◌≡◌, ◌≤◌, ◌&&◌, pos, negsuc, int_le, IsTrue, Ok, IfOk};
+ghost use Rattle.std.specs.Prelude.{◌≡◌, ◌≤◌, ◌&&◌, pos, negsuc, int_le, nat_le, ◌∷◌, ◌++◌, [], IfSome};
+ghost use Rattle.std.specs.Prelude.{option_map, option_and_then};
+ghost use Rattle.std.specs.List.{list_all};
+ghost use Rattle.serde_json.specs.Find.{as_bool};
 ghost use Rattle.serde_json.specs.View.{view, items_view};
-ghost use Rattle.gf_ops.specs.Limits.{is_id, is_clock, is_near, is_size, is_layer};
-ghost use Rattle.gf_json.specs.LineValues.{mapped};
-ghost use Rattle.gf_json.specs.LineForms.{elements};
-ghost use Rattle.gf_json.specs.StepValues.{◌&◌, whole_value, array, two, truth};
-ghost use Rattle.gf_json.specs.StepLimits.{integer, natural_value, coordinate_value, side_value};
-ghost use Rattle.gf_json.specs.StepLimits.{side_twice, entry_value, name, size, radius, level};
-ghost use Rattle.gf_json.specs.StepLimits.{point_value, clock};
-ghost use Rattle.gf_json.specs.StepAims.{numbers};
+ghost use Rattle.gf_ops.specs.Limits.{is_site, is_id, is_clock, is_near, is_size, is_layer};
+ghost use Rattle.gf_json.specs.LineForms as form;
+ghost use Rattle.gf_json.specs.LineForms.{◌&◌};
+ghost use Rattle.gf_json.specs.ReadLists.{clock_of};
+ghost use Rattle.gf_json.specs.Limited.{kept, limited, is_between};
 
 use crate::LineError;
 use gf_ops::{Clock, OpId};
-use gf_plane::Point;
+use gf_plane::{Point, Rgb, rgb_of_hex};
 use serde_json::Value;
 
-/// Both of two parts. Field in either comes before Range in either.
-pub(crate) fn both<A: Drop, B: Drop>(
-    first: Result<A, LineError>,
-    second: Result<B, LineError>,
-) -> Result<(A, B), LineError>
-    ensures value { result ≡ (first & second) }
-    ensures parts { IfOk result (λ p. (first ≡ Ok p.0) × (second ≡ Ok p.1)) }
+/// The elements of an array.
+pub(crate) fn elements(value: Option<&Value>) -> Option<&[Value]>
+    ensures { option_map (λ vs. form.elements (items_view vs.now)) result
+        ≡ option_and_then form.array (option_map (λ v. view v.now) value.entry) }
 {
-    match (first, second) {
-        (Ok(a), Ok(b)) => Ok((a, b)),
-        (Ok(_), Err(fault)) => Err(fault),
-        (Err(_), Err(LineError::Field)) => Err(LineError::Field),
-        (Err(fault), _) => Err(fault),
+    Some(value?.as_array()?.as_slice())
+}
+
+/// The two whole numbers of an array.
+#[tactic(auto, using(crate::proofs::ArrayLemmas::not_two))]
+pub(crate) fn numbers(value: Option<&Value>) -> Option<(i64, i64)>
+    ensures { result ≡ option_and_then (form.pair form.whole) (option_map (λ v. view v.now) value.entry) }
+{
+    match elements(value)? {
+        [a, b] => Some((a.as_i64()?, b.as_i64()?)),
+        [] | [_] | [_, _, _, ..] => None,
     }
 }
 
-fn whole(value: &Value) -> Result<i64, LineError>
-    ensures { result ≡ whole_value (view value.now) }
+fn whole(value: Option<&Value>) -> Option<i64>
+    ensures { result ≡ option_and_then form.whole (option_map (λ v. view v.now) value.entry) }
 {
-    value.as_i64().ok_or(LineError::Field)
+    value?.as_i64()
 }
 
-fn integer(value: &Value, low: i64, high: i64) -> Result<i64, LineError>
-    ensures { result ≡ integer low high (view value.now) }
+pub(crate) fn truth(value: Option<&Value>) -> Option<bool>
+    ensures { result ≡ option_and_then as_bool (option_map (λ v. view v.now) value.entry) }
 {
-    let n = whole(value)?;
-    if low <= n && n <= high {
-        Ok(n)
+    value?.as_bool()
+}
+
+/// The colour of a string of six hexadecimal digits. It keeps its limits.
+pub(crate) fn hex_colour(value: Option<&Value>) -> Option<Rgb>
+    ensures { result ≡ option_and_then form.hex_colour (option_map (λ v. view v.now) value.entry) }
+{
+    rgb_of_hex(value?.as_str()?.as_bytes())
+}
+
+/// The number from 0 on, if it lies between the two limits.
+#[tactic(auto, using(std::proofs::lemmas::Int::ints, crate::proofs::FormLemmas::signs))]
+fn number(n: i64, low: u32, high: u32) -> Option<u32>
+    ensures value { result ≡ kept (is_between low high) (form.from_zero n) }
+    ensures within { IfSome result (λ m. (low ≤ m) × (m ≤ high)) }
+{
+    if i64::from(low) <= n && n <= i64::from(high) {
+        Some(n as u32)
     } else {
-        Err(LineError::Range)
+        None
     }
 }
 
-#[tactic(auto, using(std::proofs::lemmas::Int::ints))]
-pub(crate) fn natural(value: &Value, low: u32, high: u32) -> Result<u32, LineError>
-    ensures value { result ≡ natural_value low high (view value.now) }
-    ensures within { IfOk result (λ n. (low ≤ n) × (n ≤ high)) }
+/// A site.
+#[tactic(auto, using(crate::proofs::FormLemmas::numbers))]
+pub(crate) fn site(value: Option<&Value>) -> Result<Option<u8>, LineError>
+    ensures { result ≡ limited is_site
+        (option_and_then form.natural (option_map (λ v. view v.now) value.entry)) }
 {
-    let n = integer(value, i64::from(low), i64::from(high))?;
-    Ok(n as u32)
+    match whole(value) {
+        Some(n) => Ok(site_of(n)),
+        None => Err(LineError::Field),
+    }
 }
 
-#[tactic(auto, using(std::proofs::lemmas::Int::ints))]
-fn coordinate(value: &Value) -> Result<i32, LineError>
-    ensures value { result ≡ coordinate_value (view value.now) }
-    ensures within { IfOk result (λ n.
-        IsTrue (int_le (negsuc 999999) n && int_le n (pos 1000000))) }
+fn site_of(n: i64) -> Option<u8>
+    ensures { result ≡ kept is_site (form.from_zero n) }
 {
-    let n = integer(value, -1_000_000, 1_000_000)?;
-    Ok(n as i32)
+    let site = number(n, 1, 8)?;
+    Some(site as u8)
 }
 
-pub(crate) fn side(value: &Value) -> Result<u32, LineError>
-    ensures value { result ≡ side_value (view value.now) }
-    ensures within { IfOk result (λ n. IsTrue (is_size n)) }
+/// A layer.
+#[tactic(auto, using(crate::proofs::FormLemmas::numbers))]
+pub(crate) fn level(value: Option<&Value>) -> Result<Option<u16>, LineError>
+    ensures { result ≡ limited is_layer
+        (option_and_then form.natural (option_map (λ v. view v.now) value.entry)) }
 {
-    natural(value, 1, 1_000_000)
+    match whole(value) {
+        Some(n) => Ok(layer_of(n)),
+        None => Err(LineError::Field),
+    }
 }
 
-/// The size that stands twice, as a circle's radius does.
-pub(crate) fn side_twice(first: &Value, second: &Value) -> Result<u32, LineError>
-    ensures value { result ≡ side_twice (view first.now) (view second.now) }
-    ensures within { IfOk result (λ n. IsTrue (is_size n)) }
+#[tactic(auto, using(crate::proofs::FormLemmas::bounds))]
+fn layer_of(n: i64) -> Option<u16>
+    ensures { result ≡ kept is_layer (form.from_zero n) }
 {
-    let (width, height) = both(whole(first), whole(second))?;
+    let layer = number(n, 0, 9_999)?;
+    Some(layer as u16)
+}
+
+/// A name: a site and a number there.
+pub(crate) fn name(value: Option<&Value>) -> Result<Option<OpId>, LineError>
+    ensures { result ≡ limited is_id
+        (option_and_then form.name (option_map (λ v. view v.now) value.entry)) }
+{
+    match numbers(value) {
+        Some((site, seq)) => Ok(id_of(site, seq)),
+        None => Err(LineError::Field),
+    }
+}
+
+fn id_of(site: i64, seq: i64) -> Option<OpId>
+    ensures { result ≡ kept is_id (form.id_of (site, seq)) }
+{
+    let site = site_of(site)?;
+    let seq = number(seq, 1, 10_000)?;
+    Some(OpId { site, seq })
+}
+
+/// A width and a height, or two radii.
+#[tactic(auto, using(crate::proofs::FormLemmas::numbers))]
+pub(crate) fn size(value: Option<&Value>) -> Result<Option<(u32, u32)>, LineError>
+    ensures { result ≡ limited (λ s. is_size s.0 && is_size s.1)
+        (option_and_then (form.pair form.natural) (option_map (λ v. view v.now) value.entry)) }
+{
+    match numbers(value) {
+        Some((width, height)) => Ok(size_of(width, height)),
+        None => Err(LineError::Field),
+    }
+}
+
+fn size_of(width: i64, height: i64) -> Option<(u32, u32)>
+    ensures { result ≡ kept (λ s. is_size s.0 && is_size s.1)
+        (form.from_zero width, form.from_zero height) }
+{
+    let width = number(width, 1, 1_000_000)?;
+    let height = number(height, 1, 1_000_000)?;
+    Some((width, height))
+}
+
+/// A radius, standing twice.
+pub(crate) fn radius(value: Option<&Value>) -> Result<Option<u32>, LineError>
+    ensures { result ≡ limited is_size
+        (option_and_then form.radius (option_map (λ v. view v.now) value.entry)) }
+{
+    let Some((width, height)) = numbers(value) else {
+        return Err(LineError::Field);
+    };
     if width == height {
-        side(first)
+        Ok(number(width, 1, 1_000_000))
     } else {
         Err(LineError::Field)
     }
 }
 
-fn entry(value: &Value) -> Result<u32, LineError>
-    ensures value { result ≡ entry_value (view value.now) }
-    ensures within { IfOk result (λ n. n ≤ 10000) }
+/// A point.
+pub(crate) fn point(value: Option<&Value>) -> Result<Option<Point>, LineError>
+    ensures { result ≡ limited is_near
+        (option_and_then form.point (option_map (λ v. view v.now) value.entry)) }
 {
-    natural(value, 0, 10_000)
-}
-
-/// A name: a site and a number there.
-pub(crate) fn name(value: &Value) -> Result<OpId, LineError>
-    ensures value { result ≡ name (view value.now) }
-    ensures in_range { IfOk result (λ i. IsTrue (is_id i)) }
-{
-    let (site, seq) = two(value)?;
-    let (site, seq) = both(natural(site, 1, 8), natural(seq, 1, 10_000))?;
-    Ok(OpId {
-        site: site as u8,
-        seq,
-    })
-}
-
-/// Two whole numbers, as a name has.
-pub(crate) fn numbers(value: &Value) -> Result<(i64, i64), LineError>
-    ensures { result ≡ numbers (view value.now) }
-{
-    let (first, second) = two(value)?;
-    both(whole(first), whole(second))
-}
-
-/// A width and a height, or two radii.
-pub(crate) fn size(value: &Value) -> Result<(u32, u32), LineError>
-    ensures value { result ≡ size (view value.now) }
-    ensures within { IfOk result (λ s. IsTrue (is_size s.0 && is_size s.1)) }
-{
-    let (width, height) = two(value)?;
-    both(side(width), side(height))
-}
-
-/// A radius, standing twice.
-pub(crate) fn radius(value: &Value) -> Result<u32, LineError>
-    ensures value { result ≡ radius (view value.now) }
-    ensures within { IfOk result (λ n. IsTrue (is_size n)) }
-{
-    let (width, height) = two(value)?;
-    side_twice(width, height)
-}
-
-pub(crate) fn level(value: &Value) -> Result<u16, LineError>
-    ensures value { result ≡ level (view value.now) }
-    ensures within { IfOk result (λ n. IsTrue (is_layer n)) }
-{
-    let level = natural(value, 0, 9_999)?;
-    Ok(level as u16)
-}
-
-pub(crate) fn truth(value: &Value) -> Result<bool, LineError>
-    ensures { result ≡ truth (view value.now) }
-{
-    value.as_bool().ok_or(LineError::Field)
-}
-
-/// The elements of an array.
-pub(crate) fn elements(value: &Value) -> Result<&[Value], LineError>
-    ensures { mapped (λ vs. elements (items_view vs.now)) result ≡ array (view value.now) }
-{
-    match value.as_array() {
-        Some(list) => Ok(list.as_slice()),
+    match numbers(value) {
+        Some((x, y)) => Ok(point_of(x, y)),
         None => Err(LineError::Field),
     }
 }
 
-/// The elements of an array of two.
-#[tactic(auto, using(crate::proofs::ArrayLemmas::not_two))]
-pub(crate) fn two(value: &Value) -> Result<(&Value, &Value), LineError>
-    ensures { mapped (λ p. (view p.0.now, view p.1.now)) result ≡ two (view value.now) }
+#[tactic(auto, using(std::proofs::lemmas::Int::ints), unfolding(gf_ops::specs::Limits::is_near))]
+fn point_of(x: i64, y: i64) -> Option<Point>
+    ensures { result ≡ kept is_near (record { x = x; y = y }) }
 {
-    match elements(value)? {
-        [a, b] => Ok((a, b)),
-        [] | [_] | [_, _, _, ..] => Err(LineError::Field),
+    let x = coordinate(x)?;
+    let y = coordinate(y)?;
+    Some(Point { x, y })
+}
+
+#[tactic(auto, using(std::proofs::lemmas::Int::ints))]
+fn coordinate(n: i64) -> Option<i32>
+    ensures { result ≡ kept (λ z. int_le (negsuc 999999) z && int_le z (pos 1000000)) n }
+{
+    if -1_000_000 <= n && n <= 1_000_000 {
+        Some(n as i32)
+    } else {
+        None
     }
 }
 
-#[tactic(auto, using(std::proofs::lemmas::Int::ints), unfolding(gf_ops::specs::Limits::is_near))]
-pub(crate) fn point(value: &Value) -> Result<Point, LineError>
-    ensures value { result ≡ point_value (view value.now) }
-    ensures in_range { IfOk result (λ p. IsTrue (is_near p)) }
+/// A clock, by its eight entries.
+pub(crate) fn clock(value: Option<&Value>) -> Result<Option<Clock>, LineError>
+    ensures { result ≡ limited is_clock
+        (option_and_then form.clock (option_map (λ v. view v.now) value.entry)) }
 {
-    let (x, y) = two(value)?;
-    let (x, y) = both(coordinate(x), coordinate(y))?;
-    Ok(Point { x, y })
+    match elements(value) {
+        Some(values) => clock_of(values),
+        None => Err(LineError::Field),
+    }
 }
 
 #[tactic(auto, using(crate::proofs::ArrayLemmas::not_eight))]
-pub(crate) fn clock(values: &[Value]) -> Result<Clock, LineError>
-    ensures value { result ≡ clock (elements (items_view values.now)) }
-    ensures in_range { IfOk result (λ c. IsTrue (is_clock c)) }
+fn clock_of(values: &[Value]) -> Result<Option<Clock>, LineError>
+    ensures { result ≡ limited is_clock (clock_of (form.elements (items_view values.now))) }
 {
     let [a, b, c, d, e, f, g, h] = values else {
         return Err(LineError::Field);
     };
-    let last = both(entry(f), both(entry(g), entry(h)));
-    let later = both(entry(c), both(entry(d), both(entry(e), last)));
-    match both(entry(a), both(entry(b), later)) {
-        Ok((a, (b, (c, (d, (e, (f, (g, h)))))))) => Ok(Clock([a, b, c, d, e, f, g, h])),
-        Err(fault) => Err(fault),
+    let first = four(a, b, c, d)?;
+    let last = four(e, f, g, h)?;
+    Ok(eight(first, last))
+}
+
+/// Four entries of a clock.
+fn four(a: &Value, b: &Value, c: &Value, d: &Value) -> Result<Option<[u32; 4]>, LineError>
+    ensures { result ≡ limited (list_all (λ n. nat_le n 10000))
+        (form.each form.natural (view a.now ∷ view b.now ∷ view c.now ∷ view d.now ∷ [])) }
+{
+    match (a.as_i64(), b.as_i64(), c.as_i64(), d.as_i64()) {
+        (Some(a), Some(b), Some(c), Some(d)) => Ok(entries(a, b, c, d)),
+        _ => Err(LineError::Field),
     }
+}
+
+fn entries(a: i64, b: i64, c: i64, d: i64) -> Option<[u32; 4]>
+    ensures { result ≡ kept (list_all (λ n. nat_le n 10000)) (form.from_zero a ∷ form.from_zero b ∷ form.from_zero c ∷ form.from_zero d ∷ []) }
+{
+    Some([entry(a)?, entry(b)?, entry(c)?, entry(d)?])
+}
+
+#[tactic(auto, using(crate::proofs::FormLemmas::bounds))]
+fn entry(n: i64) -> Option<u32>
+    ensures { result ≡ kept (λ n. nat_le n 10000) (form.from_zero n) }
+{
+    number(n, 0, 10_000)
+}
+
+/// The clock of the entries that keep their limits.
+fn eight(first: Option<[u32; 4]>, last: Option<[u32; 4]>) -> Option<Clock>
+    ensures { result ≡ option_map (λ p. record { 0 = p.0 ++ p.1 }) (first & last) }
+{
+    let [a, b, c, d] = first?;
+    let [e, f, g, h] = last?;
+    Some(Clock([a, b, c, d, e, f, g, h]))
 }

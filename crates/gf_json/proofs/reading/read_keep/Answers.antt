@@ -1,15 +1,14 @@
 use Rattle.std.proofs.Common.{refl}
 use Rattle.serde_json.specs.View.{view}
-use Rattle.gf_json.specs.StepLines.{keep_of}
-use Rattle.gf_json.proofs.FormLineLemmas.{within-keep}
-use Rattle.gf_json.proofs.KeyLemmas.{denoted_by, denoted_fault}
+use Rattle.gf_json.specs.KeepLines.{is_keep, keep_of}
+use Rattle.gf_json.proofs.KeyLemmas.{denoted_by, denoted-within}
 use Rattle.gf_json.proofs.reading.read_keep.Goals as goal
 
 pub returns-in-Ok-clause-denoted : goal.returns-in-Ok-clause-denoted
 returns-in-Ok-clause-denoted c =
-    denoted_by keep_of _ within-keep c.args.line.now (view c.in-Ok.value) c.in-Ok.value _ _ refl
-    c.in-Ok.ensures c.keep_of.ensures.value
+    denoted_by is_keep keep_of keep_of (λ d. refl) c.args.line.now (view c.in-Ok.value) c.in-Ok.value _ c.keep_of.result _ refl
+    c.in-Ok.ensures c.keep_of.ensures c.ranged.ensures
 
-pub returns-in-Err-clause-denoted : goal.returns-in-Err-clause-denoted
-returns-in-Err-clause-denoted c =
-    denoted_fault _ c.args.line.now c.in-Err.fault _ _ refl refl c.in-Err.ensures
+pub returns-in-Ok-clause-in_range : goal.returns-in-Ok-clause-in_range
+returns-in-Ok-clause-in_range c =
+    denoted-within is_keep (keep_of (view c.in-Ok.value)) c.keep_of.result _ c.keep_of.ensures c.ranged.ensures

@@ -1,11 +1,10 @@
-use Rattle.std.proofs.Common.{◌≡◌, ◌≤◌, false, ap, sym, ◌∙◌, Some, string_bytes}
+use Rattle.std.proofs.Common.{◌≡◌, ◌≤◌, false, refl, ap, ◌∙◌, Some, string_bytes}
 use Rattle.std.proofs.lemmas.Str.{IsUtf8-string_bytes}
 use Rattle.serde_json.specs.Data.{depth}
 use Rattle.serde_json.specs.Read.{max_depth}
 use Rattle.serde_json.specs.Written.{has_float, compact_text}
 use Rattle.serde_json.specs.View.{view}
 use Rattle.gf_json.specs.WrittenScripts.{script_data}
-use Rattle.gf_json.proofs.FormLineLemmas.{within-script}
 use Rattle.gf_json.proofs.KeyLemmas.{json-read}
 use Rattle.gf_json.proofs.ScriptAgainLemmas.{script_of-script_data}
 use Rattle.gf_json.proofs.WrittenLemmas.{has_float-script_data, depth-script_data}
@@ -26,5 +25,4 @@ returns-clause-read_again c = λ within.
     let read = json-read (string_bytes c.in_ok-line.line) (script_data c.args.script.now)
     (IsUtf8-string_bytes c.in_ok-line.line) (c.in_ok-line.ensures.reads_back shallow
     ∙ ap Some built) in
-    rw read (sym (within-script (script_data c.args.script.now))
-    ∙ script_of-script_data c.args.script.now within)
+    rw (read, script_of-script_data c.args.script.now within, within) refl

@@ -1,11 +1,10 @@
-use Rattle.std.proofs.Common.{◌≡◌, ◌≤◌, false, ap, sym, ◌∙◌, Some, string_bytes}
+use Rattle.std.proofs.Common.{◌≡◌, ◌≤◌, false, refl, ap, ◌∙◌, Some, string_bytes}
 use Rattle.std.proofs.lemmas.Str.{IsUtf8-string_bytes}
 use Rattle.serde_json.specs.Data.{depth}
 use Rattle.serde_json.specs.Read.{max_depth}
 use Rattle.serde_json.specs.Written.{has_float, compact_text}
 use Rattle.serde_json.specs.View.{view}
 use Rattle.gf_json.specs.WrittenLines.{data_of}
-use Rattle.gf_json.proofs.FormLineLemmas.{within-op}
 use Rattle.gf_json.proofs.KeyLemmas.{json-read}
 use Rattle.gf_json.proofs.OpAgainLemmas.{op_of-data_of}
 use Rattle.gf_json.proofs.WrittenLemmas.{has_float-data_of, depth-data_of}
@@ -26,5 +25,4 @@ returns-clause-read_again c = λ within.
     let read = json-read (string_bytes c.in_ok-line.line) (data_of c.args.op.now)
     (IsUtf8-string_bytes c.in_ok-line.line) (c.in_ok-line.ensures.reads_back shallow
     ∙ ap Some built) in
-    rw read (sym (within-op (data_of c.args.op.now))
-    ∙ op_of-data_of c.args.op.now c.in_ok-value.ensures.eight within)
+    rw (read, op_of-data_of c.args.op.now c.in_ok-value.ensures.eight within, within) refl

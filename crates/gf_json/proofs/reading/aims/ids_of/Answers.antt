@@ -1,33 +1,30 @@
-use Rattle.std.proofs.Common.{rules, ◌≡◌, true, inr}
+use Rattle.std.proofs.Common.{rules, inr, length, sym, ◌∙◌}
+use Rattle.std.specs.Prelude.{◌&&◌, nat_le}
+use Rattle.std.specs.List.{list_all}
+use Rattle.std.proofs.lemmas.Bool.{and_parts}
 use Rattle.serde_json.specs.View.{items_view}
-use Rattle.gf_json.specs.LineForms.{elements}
-use Rattle.gf_json.specs.StepValues.{each}
-use Rattle.gf_json.specs.StepAims.{numbers, rising}
-use Rattle.gf_json.proofs.IdLemmas.{many_ids, read_ids, fault_of_ids}
+use Rattle.gf_ops.specs.Limits.{is_aim, is_id}
+use Rattle.gf_ops.specs.OperationOrder.{id_cmp, rises}
+use Rattle.gf_json.specs.LineForms.{elements, name}
+use Rattle.gf_json.specs.ReadLists.{ids_of}
+use Rattle.gf_json.proofs.ElementLemmas.{each_kept, each_read, keeps, keeps_as}
+use Rattle.gf_json.proofs.IdLemmas.{aim_named}
 use Rattle.gf_json.proofs.reading.aims.ids_of.Goals as goal
 
-pub returns-then-values-gt1000-clause-value : goal.returns-then-values-gt1000-clause-value
-returns-then-values-gt1000-clause-value c =
-    let rises : rising (each numbers (elements (items_view c.args.values.now))) ≡ true = search
-    rules in
-    inr (many_ids c.args.values.now rises c.if-values-gt1000.true)
+pub names-requires : goal.names-requires
+names-requires c =
+    let vs = c.args.values.now in
+    let ds = elements (items_view vs) in
+    let (is, form, within) = keeps is_aim (ids_of ds) (search rules) in
+    let first = and_parts (nat_le (length is) 1000 && list_all is_id is) (rises id_cmp is) within in
+    each_kept name is_id vs is (aim_named ds is form)
+    (and_parts (nat_le (length is) 1000) (list_all is_id is) first.0).1
 
-pub returns-in-Ok-clause-value : goal.returns-in-Ok-clause-value
-returns-in-Ok-clause-value c =
-    let rises : rising (each numbers (elements (items_view c.args.values.now))) ≡ true = search
-    rules in
-    inr (rw c.new.ensures (read_ids c.in-Ok.ids c.args.values.now c.in-Ok.ids.items rises
-    c.if-values-gt1000.false c.in-Ok.ensures).0)
-
-pub returns-in-Ok-clause-in_range : goal.returns-in-Ok-clause-in_range
-returns-in-Ok-clause-in_range c =
-    let rises : rising (each numbers (elements (items_view c.args.values.now))) ≡ true = search
-    rules in
-    rw c.new.ensures (read_ids c.in-Ok.ids c.args.values.now c.in-Ok.ids.items rises
-    c.if-values-gt1000.false c.in-Ok.ensures).1
-
-pub returns-in-Err-clause-value : goal.returns-in-Err-clause-value
-returns-in-Err-clause-value c =
-    let rises : rising (each numbers (elements (items_view c.args.values.now))) ≡ true = search
-    rules in
-    fault_of_ids c.in-Err.fault c.args.values.now rises c.if-values-gt1000.false c.in-Err.ensures
+pub returns-in-Ok : goal.returns-in-Ok
+returns-in-Ok c =
+    let vs = c.args.values.now in
+    let ds = elements (items_view vs) in
+    let (is, form, within) = keeps is_aim (ids_of ds) (search rules) in
+    let read = each_read name vs c.in-Ok.ids.items c.in-Ok.ensures in
+    inr (rw c.new.ensures (keeps_as is_aim (ids_of ds) c.in-Ok.ids.items (search rules)
+    (form ∙ (sym (aim_named ds is form) ∙ read))))

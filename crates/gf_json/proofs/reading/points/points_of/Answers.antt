@@ -1,33 +1,24 @@
-use Rattle.std.proofs.Common.{◌≡◌, sym, Ok, inr, length}
+use Rattle.std.proofs.Common.{rules, inr, length}
+use Rattle.std.specs.List.{list_all}
+use Rattle.std.proofs.lemmas.Bool.{and_parts}
 use Rattle.serde_json.specs.View.{items_view}
-use Rattle.gf_json.specs.LineForms.{elements}
-use Rattle.gf_json.specs.StepValues.{◌&◌, each}
-use Rattle.gf_json.specs.StepLimits.{point_value, counted}
-use Rattle.gf_json.specs.CheckedPoints.{checked}
-use Rattle.gf_json.proofs.FormListLemmas.{points_of-within}
-use Rattle.gf_json.proofs.PointLemmas.{points_checked, points_of-read}
+use Rattle.gf_plane.specs.PointCounts.{is_polygon_count}
+use Rattle.gf_ops.specs.Limits.{is_near, is_polygon}
+use Rattle.gf_json.specs.LineForms.{each, elements, point}
+use Rattle.gf_json.proofs.ElementLemmas.{each_kept, each_read, keeps, keeps_as}
 use Rattle.gf_json.proofs.reading.points.points_of.Goals as goal
 
-pub checked_points-requires : goal.checked_points-requires
-checked_points-requires c =
-    let all : (counted (length c.args.values.now) & checked
-    (each point_value (elements (items_view c.args.values.now)))) ≡ Ok c.in_ok-both.field-0 =
-    rw (← c.counted.ensures, ← c.are_points.ensures, ← c.both.ensures.value) c.in_ok-both.was in
-    points_checked c.args.values.now c.in_ok-both.field-0 all
+pub near_points-requires : goal.near_points-requires
+near_points-requires c =
+    let vs = c.args.values.now in
+    let (ps, form, within) = keeps is_polygon (each point (elements (items_view vs))) (search rules)
+    in
+    each_kept point is_near vs ps form
+    (and_parts (is_polygon_count (length ps)) (list_all is_near ps) within).1
 
-pub returns-in-Ok-clause-value : goal.returns-in-Ok-clause-value
-returns-in-Ok-clause-value c =
-    let all : (counted (length c.args.values.now) & checked
-    (each point_value (elements (items_view c.args.values.now)))) ≡ Ok c.in_ok-both.field-0 =
-    rw (← c.counted.ensures, ← c.are_points.ensures, ← c.both.ensures.value) c.in_ok-both.was in
-    inr (rw c.new.ensures (sym (points_of-read c.args.values.now c.in-Ok.points.items
-    c.in_ok-both.field-0 all c.in-Ok.ensures)))
-
-pub returns-in-Ok-clause-in_range : goal.returns-in-Ok-clause-in_range
-returns-in-Ok-clause-in_range c =
-    let all : (counted (length c.args.values.now) & checked
-    (each point_value (elements (items_view c.args.values.now)))) ≡ Ok c.in_ok-both.field-0 =
-    rw (← c.counted.ensures, ← c.are_points.ensures, ← c.both.ensures.value) c.in_ok-both.was in
-    rw c.new.ensures (points_of-within (elements (items_view c.args.values.now))
-    c.in-Ok.points.items (points_of-read c.args.values.now c.in-Ok.points.items c.in_ok-both.field-0
-    all c.in-Ok.ensures))
+pub returns-in-Ok : goal.returns-in-Ok
+returns-in-Ok c =
+    let vs = c.args.values.now in
+    let ps = c.in-Ok.points.items in
+    inr (rw c.new.ensures (keeps_as is_polygon (each point (elements (items_view vs))) ps
+    (search rules) (each_read point vs ps c.in-Ok.ensures)))

@@ -1,7 +1,0 @@
-use Rattle.std.proofs.Common.{rules}
-use Rattle.serde_json.specs.View.{view}
-use Rattle.gf_json.proofs.MissingKeys.{authored-read}
-use Rattle.gf_json.proofs.reading.authoring.Goals as goal
-
-pub returns-in_default-clause-value : goal.returns-in_default-clause-value
-returns-in_default-clause-value c = rw (authored-read (view c.args.line.now)) (search rules)

@@ -1,0 +1,13 @@
+use Rattle.std.proofs.Common.{◌≡◌, ◌&&◌, drop}
+use Rattle.std.specs.Prelude.{option_map}
+use Rattle.std.specs.List.{list_all}
+use Rattle.serde_json.specs.View.{items_view}
+use Rattle.gf_ops.specs.Limits.{is_near}
+use Rattle.gf_json.specs.LineForms.{each, elements, point}
+use Rattle.gf_json.proofs.reading.points.are_near.Given as goal
+
+abbrev pub invariant-loop-value : goal.invariant-loop-value
+invariant-loop-value l =
+    option_map (λ ps. l.near && list_all is_near ps)
+    (each point (elements (items_view (drop l.value-index l.values))))
+    ≡ option_map (list_all is_near) (each point (elements (items_view l.values)))
