@@ -16,8 +16,8 @@ use Rattle.gf_ops.specs.Limits.{is_colour, is_site}
 use Rattle.gf_ops.specs.OperationOrder.{id_cmp, rises}
 use Rattle.serde_json.specs.Data.{Data}
 use Rattle.serde_json.specs.View.{items_of}
-use Rattle.gf_json.specs.LineForms.{all, clock, each, elements, hex_colour, id_of, ids, name, natural}
-use Rattle.gf_json.specs.LineForms.{pair, pair_cmp, point, radius, whole}
+use Rattle.gf_json.specs.LineForms.{all, clock, each, elements, hex_colour, id_of, ids, name}
+use Rattle.gf_json.specs.LineForms.{natural, pair, pair_cmp, point, radius, whole}
 use Rattle.gf_json.specs.WrittenValues.{natural_data, integer_data, name_data, ids_data, clock_data}
 use Rattle.gf_json.specs.WrittenValues.{point_data, points_data, size_data, colour_data}
 use Rattle.gf_json.proofs.IdLemmas.{rises-id_of}

@@ -1,19 +1,19 @@
 -- Arrays of the length that is asked for, and of another.
 use Rattle.std.proofs.Common.{◌≡◌, ℕ, ◌≤◌, ◌<◌, ◌==◌, List, [], ◌∷◌, ◌++◌, length, refl, arith, ◌∙◌}
 use Rattle.std.proofs.Common.{Bool, true, false, ◌&&◌, nat_le, Ok, Err, get_or, if◌then◌else◌}
-use Rattle.std.specs.List.{list_all}
-use Rattle.gf_ops.specs.Limits.{is_clock}
-use Rattle.gf_json.specs.declared.line_error.LineError.{LineError}
-use Rattle.gf_json.specs.LineValues.{Got}
-use Rattle.gf_json.specs.Limited.{kept, limited}
-use Rattle.gf_json.proofs.KeyLemmas.{list_all-append}
 use Rattle.std.specs.Prelude.{Option, Some, None, option_map, option_and_then}
+use Rattle.std.specs.List.{list_all}
 use Rattle.gf_ops.specs.declared.op.Clock.{Clock}
+use Rattle.gf_ops.specs.Limits.{is_clock}
 use Rattle.serde_json.specs.Data.{Data}
 use Rattle.serde_json.specs.declared.value.Value.{Value}
 use Rattle.serde_json.specs.View.{view, items_view}
+use Rattle.gf_json.specs.declared.line_error.LineError.{LineError}
 use Rattle.gf_json.specs.LineForms.{◌&◌, both, each, elements, natural}
+use Rattle.gf_json.specs.LineValues.{Got}
+use Rattle.gf_json.specs.Limited.{limited}
 use Rattle.gf_json.specs.ReadLists.{clock_of}
+use Rattle.gf_json.proofs.KeyLemmas.{list_all-append}
 
 -- ---- arrays of two
 
@@ -57,6 +57,13 @@ length-each {A = A} form (d ∷ ds) xs h = of_both (form d) (each form ds) (leng
         let l = m bs refl in
         rw (← e) (omega (arith, l))
 
+-- as many values have their form as there are
+pub length-form : {A : Type 0} (form : Data → Option A) (vs : List Value) (xs : List A)
+    → each form (elements (items_view vs)) ≡ Some xs → length xs ≡ length vs
+length-form form vs xs h = length-each form (elements (items_view vs)) xs h ∙ length-elements vs
+
+pub ruleset lengths = (length-form)
+
 -- ---- clocks
 
 -- no number of entries but eight makes a clock
@@ -64,8 +71,8 @@ clock-other : (ds : List Data) → (length ds == 8) ≡ false → clock_of ds �
 clock-other ds h = of_each (each natural ds) (length-each natural ds)
   where
     of_each : (x : Option (List ℕ)) → ((ns : List ℕ) → x ≡ Some ns → length ns ≡ length ds)
-        → option_and_then {U = Clock} (λ ns. if length ns == 8 then Some (record { 0 = ns }) else None) x
-        ≡ None
+        → option_and_then {U = Clock}
+        (λ ns. if length ns == 8 then Some (record { 0 = ns }) else None) x ≡ None
     of_each None l = refl
     of_each (Some ns) l = let e = l ns refl in rw (e, h) refl
 
@@ -85,9 +92,12 @@ clock-long vs h =
 
 pub ruleset not_eight = (clock-short, clock-long)
 
--- eight entries are four and four
+-- a clock of four entries and four
+abbrev joined : List ℕ × List ℕ → Clock
+joined p = record { 0 = p.0 ++ p.1 }
+
 eight : (a b c d e f g h : Data) → clock_of (a ∷ b ∷ c ∷ d ∷ e ∷ f ∷ g ∷ h ∷ [])
-    ≡ option_map (λ p. record { 0 = p.0 ++ p.1 })
+    ≡ option_map joined
     (each natural (a ∷ b ∷ c ∷ d ∷ []) & each natural (e ∷ f ∷ g ∷ h ∷ []))
 eight a b c d e f g h = of_each (natural a) (natural b) (natural c) (natural d) (natural e)
     (natural f) (natural g) (natural h)
@@ -95,26 +105,18 @@ eight a b c d e f g h = of_each (natural a) (natural b) (natural c) (natural d) 
     cons : Option ℕ → Option (List ℕ) → Option (List ℕ)
     cons x y = option_map (λ p. p.0 ∷ p.1) (x & y)
 
-    of_each : (a b c d e f g h : Option ℕ)
-        → option_and_then {U = Clock} (λ ns. if length ns == 8 then Some (record { 0 = ns }) else None)
+    of_each : (a b c d e f g h : Option ℕ) → option_and_then
+        (λ ns. if length ns == 8 then Some (record { 0 = ns }) else None)
         (cons a (cons b (cons c (cons d (cons e (cons f (cons g (cons h (Some [])))))))))
-        ≡ option_map (λ p. record { 0 = p.0 ++ p.1 })
+        ≡ option_map joined
         (cons a (cons b (cons c (cons d (Some [])))) & cons e (cons f (cons g (cons h (Some [])))))
-    of_each None b c d e f g h = refl
-    of_each (Some a) None c d e f g h = refl
-    of_each (Some a) (Some b) None d e f g h = refl
-    of_each (Some a) (Some b) (Some c) None e f g h = refl
-    of_each (Some a) (Some b) (Some c) (Some d) None f g h = refl
-    of_each (Some a) (Some b) (Some c) (Some d) (Some e) None g h = refl
-    of_each (Some a) (Some b) (Some c) (Some d) (Some e) (Some f) None h = refl
-    of_each (Some a) (Some b) (Some c) (Some d) (Some e) (Some f) (Some g) None = refl
-    of_each (Some a) (Some b) (Some c) (Some d) (Some e) (Some f) (Some g) (Some h) = refl
+    of_each a b c d e f g h = grind arith
 
 -- the clock of eight values
 pub clock_of_eight : (vs : List Value) (a b c d e f g h : Value) → 8 ≤ length vs → length vs < 9
     → a ≡ get_or vs 0 a → b ≡ get_or vs 1 b → c ≡ get_or vs 2 c → d ≡ get_or vs 3 d
     → e ≡ get_or vs 4 e → f ≡ get_or vs 5 f → g ≡ get_or vs 6 g → h ≡ get_or vs 7 h
-    → clock_of (elements (items_view vs)) ≡ option_map (λ p. record { 0 = p.0 ++ p.1 })
+    → clock_of (elements (items_view vs)) ≡ option_map joined
     (each natural (view a ∷ view b ∷ view c ∷ view d ∷ [])
     & each natural (view e ∷ view f ∷ view g ∷ view h ∷ []))
 clock_of_eight (v0 ∷ v1 ∷ v2 ∷ v3 ∷ v4 ∷ v5 ∷ v6 ∷ v7 ∷ []) a b c d e f g h l m p q r s t u v w =
@@ -122,44 +124,18 @@ clock_of_eight (v0 ∷ v1 ∷ v2 ∷ v3 ∷ v4 ∷ v5 ∷ v6 ∷ v7 ∷ []) a b 
     (view v6) (view v7))
 clock_of_eight vs a b c d e f g h l m p q r s t u v w = absurd (omega (arith, l, m))
 
--- four entries and four that keep their limits
-abbrev joined : List ℕ × List ℕ → Clock
-joined p = record { 0 = p.0 ++ p.1 }
-
 abbrev are_entries : List ℕ → Bool
 are_entries ns = list_all (λ n. nat_le n 10000) ns
 
-four_more : (ms ns : List ℕ)
-    → ◌≡◌ {A = Got (Option Clock)} (Ok (option_map joined (kept are_entries ms & kept are_entries ns)))
-    (Ok (kept is_clock (joined (ms, ns))))
-four_more ms ns = rw (list_all-append (λ n. nat_le n 10000) ms ns) (by_tests (are_entries ms) (are_entries ns))
-  where
-    by_tests : (s t : Bool) → ◌≡◌ {A = Got (Option Clock)} (Ok (option_map joined ((if s then Some ms else None)
-        & (if t then Some ns else None)))) (Ok (if s && t then Some (joined (ms, ns)) else None))
-    by_tests true true = refl
-    by_tests true false = refl
-    by_tests false true = refl
-    by_tests false false = refl
-
-pub entries_limited : (x y u v : Option (List ℕ)) → ◌≡◌ {A = Got (Option (List ℕ))} (Ok u) (limited are_entries x)
+-- it keeps its limits where both fours do
+pub entries_limited : (x y u v : Option (List ℕ))
+    → ◌≡◌ {A = Got (Option (List ℕ))} (Ok u) (limited are_entries x)
     → ◌≡◌ {A = Got (Option (List ℕ))} (Ok v) (limited are_entries y)
     → Ok (option_map joined (u & v)) ≡ limited is_clock (option_map joined (x & y))
-entries_limited None y u v h k = absurd cc
-entries_limited (Some ms) None u v h k = absurd cc
-entries_limited (Some ms) (Some ns) u v h k =
-    let e : u ≡ kept are_entries ms = cc in
-    let f : v ≡ kept are_entries ns = cc in
-    rw (e, f) (four_more ms ns)
+entries_limited x y u v h k = grind (arith, list_all-append)
 
-pub last_fault : (e : LineError) (x y : Option (List ℕ)) → ◌≡◌ {A = Got (Option (List ℕ))} (Err e) (limited are_entries y)
+-- and has the fault of the last four
+pub last_fault : (e : LineError) (x y : Option (List ℕ))
+    → ◌≡◌ {A = Got (Option (List ℕ))} (Err e) (limited are_entries y)
     → Err e ≡ limited is_clock (option_map joined (x & y))
-last_fault e None None h = cc
-last_fault e (Some ms) None h = cc
-last_fault e x (Some ns) h = absurd cc
-
--- as many values have their form as there are
-pub length-form : {A : Type 0} (form : Data → Option A) (vs : List Value) (xs : List A)
-    → each form (elements (items_view vs)) ≡ Some xs → length xs ≡ length vs
-length-form form vs xs h = length-each form (elements (items_view vs)) xs h ∙ length-elements vs
-
-pub ruleset lengths = (length-form)
+last_fault e x y h = grind arith

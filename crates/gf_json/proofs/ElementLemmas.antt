@@ -41,7 +41,8 @@ each_kept {A = A} form p (v ∷ vs) xs h k =
     of_form (form (view v)) (each form (elements (items_view vs))) (each_kept form p vs) refl h
   where
     of_form : (x : Option A) (y : Option (List A))
-        → ((ys : List A) → y ≡ Some ys → list_all p ys ≡ true → All (λ w. IsKept p (form (view w))) vs)
+        → ((ys : List A) → y ≡ Some ys → list_all p ys ≡ true
+        → All (λ w. IsKept p (form (view w))) vs)
         → form (view v) ≡ x → option_map (λ p. p.0 ∷ p.1) (x & y) ≡ Some xs
         → All (λ w. IsKept p (form (view w))) (v ∷ vs)
     of_form None y others d f = absurd cc

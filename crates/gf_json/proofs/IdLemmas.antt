@@ -1,17 +1,14 @@
 -- The ids of an aim, and their order.
-use Rattle.std.proofs.Common.{◌≡◌, ℕ, ◌<◌, ◌+◌, ℤ, pos, negsuc, nat_le, List, [], ◌∷◌, length, map, ◌≤◌}
-use Rattle.std.proofs.Common.{drop, get_or, refl, sym, ap, ◌∙◌, arith, Ok, Bool, true, false}
-use Rattle.std.proofs.Common.{if◌then◌else◌}
+use Rattle.std.proofs.Common.{◌≡◌, ℕ, ◌<◌, ◌≤◌, ◌+◌, ℤ, pos, negsuc, nat_le, List, [], ◌∷◌, length}
+use Rattle.std.proofs.Common.{map, drop, get_or, refl, sym, ap, ◌∙◌, arith, Ok, Bool, true, false}
+use Rattle.std.proofs.Common.{if◌then◌else◌, inl, inr}
 use Rattle.std.specs.Prelude.{Option, Some, None, option_map, option_and_then}
 use Rattle.std.specs.Option.{ok_or}
 use Rattle.std.specs.List.{list_all}
 use Rattle.std.specs.Ordering.{int_cmp, nat_cmp}
-use Rattle.std.proofs.lemmas.Bool.{and_parts}
+use Rattle.std.proofs.lemmas.Bool.{and_parts, cases_Bool}
 use Rattle.std.proofs.lemmas.Bool.Decides.{nat_tests}
-use Rattle.std.proofs.Common.{inl, inr}
-use Rattle.std.proofs.lemmas.Bool.{cases_Bool}
 use Rattle.std.proofs.lemmas.List.{length-map, drop_more}
-use Rattle.std.specs.Ordering.{is_lt}
 use Rattle.gf_ops.specs.declared.op.OpId.{OpId}
 use Rattle.gf_ops.specs.Limits.{is_id, is_aim}
 use Rattle.gf_ops.specs.OperationOrder.{id_cmp, rises}
@@ -44,7 +41,7 @@ same_order a b = grind (arith, nat_tests)
 pair_cmp-id_of : (p q : ℤ × ℤ) → is_id (id_of p) ≡ true → is_id (id_of q) ≡ true
     → id_cmp (id_of p) (id_of q) ≡ pair_cmp p q
 pair_cmp-id_of (pos a, pos b) (pos c, pos d) h k = rw (same_order a c, same_order b d) refl
-pair_cmp-id_of (negsuc a, y) q h k = absurd (let n : is_id (id_of (negsuc a, y)) ≡ false = refl in cc)
+pair_cmp-id_of (negsuc a, y) q h k = absurd (grind (arith, h))
 pair_cmp-id_of (pos a, negsuc b) q h k = absurd (grind (arith, h))
 pair_cmp-id_of (pos a, pos b) (negsuc c, y) h k = absurd (grind (arith, k))
 pair_cmp-id_of (pos a, pos b) (pos c, negsuc d) h k = absurd (grind (arith, k))
@@ -60,62 +57,50 @@ rises-id_of (p ∷ q ∷ ps) h =
 
 -- ---- one pair after the other
 
+-- the pairs of whole numbers that the values vs are
+abbrev pub pairs_of : List Value → Option (List (ℤ × ℤ))
+pairs_of vs = each (pair whole) (elements (items_view vs))
+
+pairs_more : (vs : List Value) (k : ℕ) (o : Value) → k < length vs → o ≡ get_or vs k o
+    → pairs_of (drop k vs)
+    ≡ option_map (λ r. r.0 ∷ r.1) (pair whole (view o) & pairs_of (drop (k + 1) vs))
+pairs_more vs k o l is =
+    ap pairs_of (drop_more vs k o l)
+    ∙ ap (λ (v : Value). option_map {U = List (ℤ × ℤ)} (λ r. r.0 ∷ r.1) (pair whole (view v)
+    & pairs_of (drop (k + 1) vs))) (sym is)
+
 more : (p q : ℤ × ℤ) (x : Option (ℤ × ℤ)) (y : Option (List (ℤ × ℤ))) → next_behind p x ≡ Some q
     → rising_behind p (option_map (λ r. r.0 ∷ r.1) (x & y)) ≡ rising_behind q y
-more p q None y h = absurd cc
-more p q (Some r) None h = refl
-more p q (Some r) (Some rs) h = elim (cases_Bool (is_lt (pair_cmp p r))) [
-  | inl t ↦ let g = rw t at h in let e : r ≡ q = cc in
-      rw t (ap (λ (s : ℤ × ℤ). rises pair_cmp (s ∷ rs)) e)
-  | inr f ↦ absurd (let g = rw f at h in cc)
-]
+more p q x y h = grind arith
 
 stops : (p : ℤ × ℤ) (x : Option (ℤ × ℤ)) (y : Option (List (ℤ × ℤ))) → next_behind p x ≡ None
     → rising_behind p (option_map (λ r. r.0 ∷ r.1) (x & y)) ≡ false
-stops p None y h = refl
-stops p (Some r) None h = refl
-stops p (Some r) (Some rs) h = elim (cases_Bool (is_lt (pair_cmp p r))) [
-  | inl t ↦ absurd (let g = rw t at h in cc)
-  | inr f ↦ rw f refl
-]
+stops p x y h = grind arith
 
 -- a value that is behind the last pair, and those behind it
 pub rise_more : (first last next : ℤ × ℤ) (vs : List Value) (k : ℕ) (o : Value) → k < length vs
     → o ≡ get_or vs k o → Some next ≡ next_behind last (pair whole (view o))
-    → rising_behind last (each (pair whole) (elements (items_view (drop k vs)))) ≡ rising_behind first
-    (each (pair whole) (elements (items_view vs)))
-    → rising_behind next (each (pair whole) (elements (items_view (drop (k + 1) vs)))) ≡ rising_behind
-    first (each (pair whole) (elements (items_view vs)))
+    → rising_behind last (pairs_of (drop k vs)) ≡ rising_behind first (pairs_of vs)
+    → rising_behind next (pairs_of (drop (k + 1) vs)) ≡ rising_behind first (pairs_of vs)
 rise_more first last next vs k o l is read same =
-    let found : next_behind last (pair whole (view (get_or vs k o))) ≡ Some next = ap
-    (λ (v : Value). next_behind last (pair whole (view v))) (sym is) ∙ sym read in
-    sym (more last next (pair whole (view (get_or vs k o)))
-    (each (pair whole) (elements (items_view (drop (k + 1) vs)))) found)
-    ∙ (ap (λ (ws : List Value). rising_behind last (each (pair whole) (elements (items_view ws))))
-    (sym (drop_more vs k o l)) ∙ same)
+    sym (more last next (pair whole (view o)) (pairs_of (drop (k + 1) vs)) (sym read))
+    ∙ (ap (rising_behind last) (sym (pairs_more vs k o l is)) ∙ same)
 
 -- a value that is not
 pub rise_stops : (first last : ℤ × ℤ) (vs : List Value) (k : ℕ) (o : Value) → k < length vs
     → o ≡ get_or vs k o → None ≡ next_behind last (pair whole (view o))
-    → rising_behind last (each (pair whole) (elements (items_view (drop k vs)))) ≡ rising_behind first
-    (each (pair whole) (elements (items_view vs)))
-    → false ≡ rising_behind first (each (pair whole) (elements (items_view vs)))
+    → rising_behind last (pairs_of (drop k vs)) ≡ rising_behind first (pairs_of vs)
+    → false ≡ rising_behind first (pairs_of vs)
 rise_stops first last vs k o l is read same =
-    let found : next_behind last (pair whole (view (get_or vs k o))) ≡ None = ap
-    (λ (v : Value). next_behind last (pair whole (view v))) (sym is) ∙ sym read in
-    sym (stops last (pair whole (view (get_or vs k o)))
-    (each (pair whole) (elements (items_view (drop (k + 1) vs)))) found)
-    ∙ (ap (λ (ws : List Value). rising_behind last (each (pair whole) (elements (items_view ws))))
-    (sym (drop_more vs k o l)) ∙ same)
+    sym (stops last (pair whole (view o)) (pairs_of (drop (k + 1) vs)) (sym read))
+    ∙ (ap (rising_behind last) (sym (pairs_more vs k o l is)) ∙ same)
 
 -- ---- all of an aim
 
 -- more than 1,000 names that rise
-pub aim_many : (vs : List Value) → rising (each (pair whole) (elements (items_view vs))) ≡ true
-    → 1000 < length vs
+pub aim_many : (vs : List Value) → rising (pairs_of vs) ≡ true → 1000 < length vs
     → Ok false ≡ ok_or (option_map is_aim (ids_of (elements (items_view vs)))) fault.Field
-aim_many vs rise l =
-    of_pairs (each (pair whole) (elements (items_view vs))) (length-form (pair whole) vs) rise
+aim_many vs rise l = of_pairs (pairs_of vs) (length-form (pair whole) vs) rise
   where
     of_pairs : (x : Option (List (ℤ × ℤ)))
         → ((ps : List (ℤ × ℤ)) → x ≡ Some ps → length ps ≡ length vs) → rising x ≡ true
@@ -128,12 +113,12 @@ aim_many vs rise l =
         rw (r, length-map, many) refl
 
 -- no more
-pub aim_few : (vs : List Value) → rising (each (pair whole) (elements (items_view vs))) ≡ true
-    → length vs ≤ 1000 → option_map (list_all is_id) (each name (elements (items_view vs)))
+pub aim_few : (vs : List Value) → rising (pairs_of vs) ≡ true → length vs ≤ 1000
+    → option_map (list_all is_id) (each name (elements (items_view vs)))
     ≡ option_map is_aim (ids_of (elements (items_view vs)))
 aim_few vs rise l =
     rw (each-name (elements (items_view vs)))
-    (of_pairs (each (pair whole) (elements (items_view vs))) (length-form (pair whole) vs) rise)
+    (of_pairs (pairs_of vs) (length-form (pair whole) vs) rise)
   where
     few : (ps : List (ℤ × ℤ)) → length ps ≡ length vs → rises pair_cmp ps ≡ true
         → list_all is_id (map id_of ps) ≡ is_aim (map id_of ps)
@@ -161,7 +146,7 @@ aim_named ds is h = rw (each-name ds) (of_pairs (each (pair whole) ds) h)
     by_test false js k = absurd cc
 
     of_pairs : (x : Option (List (ℤ × ℤ)))
-        → option_and_then (λ ps. if rises pair_cmp ps then Some (map id_of ps) else None) x ≡ Some is
-        → option_map (map id_of) x ≡ Some is
+        → option_and_then (λ ps. if rises pair_cmp ps then Some (map id_of ps) else None) x
+        ≡ Some is → option_map (map id_of) x ≡ Some is
     of_pairs None k = absurd cc
     of_pairs (Some ps) k = by_test (rises pair_cmp ps) (map id_of ps) k

@@ -11,7 +11,6 @@ use Rattle.serde_json.specs.Data.{Data}
 use Rattle.serde_json.specs.Read.{read}
 use Rattle.serde_json.specs.declared.value.Value.{Value}
 use Rattle.serde_json.specs.View.{members_view}
-use Rattle.gf_json.specs.declared.line_error.LineError.{LineError}
 use Rattle.gf_json.specs.declared.line_error.LineError.TheVariants as fault
 use Rattle.gf_json.specs.LineValues.{Got, and_then, within}
 use Rattle.gf_json.specs.Limited.{limited, ranged}
@@ -49,28 +48,22 @@ json-refused line r = elim (cases_Bool (is_utf8 line)) [
 -- a broken limit is a fault
 ranged-limited : {A : Type 0} (keeps : A → Bool) (x : Option A)
     → ranged (limited keeps x) ≡ within keeps x
-ranged-limited keeps None = refl
-ranged-limited {A = A} keeps (Some a) = by_test (keeps a)
-  where
-    by_test : (b : Bool) → ranged {A = A} (Ok (if b then Some a else None))
-        ≡ (if b then Ok a else Err fault.Range)
-    by_test true = refl
-    by_test false = refl
+ranged-limited keeps x = grind arith
 
 -- what a line denotes, where memory serves; it is read as g says, and f says what it is
 pub denoted_by : {A B : Type 0} (keeps : A → Bool) (f g : Data → Option A)
-    → ((d : Data) → f d ≡ g d) → (line : List ℕ) (d : Data) (b : B) (v : Got B) (u : Got (Option A))
-    (r : Got A) → v ≡ Ok b → (v ≡ Err fault.OutOfMemory) ⊎ (Ok d ≡ json line)
+    → ((d : Data) → f d ≡ g d) → (line : List ℕ) (d : Data) (b : B) (u : Got (Option A)) (r : Got A)
+    → (◌≡◌ {A = Got B} (Ok b) (Err fault.OutOfMemory)) ⊎ (Ok d ≡ json line)
     → (u ≡ Err fault.OutOfMemory) ⊎ (u ≡ limited keeps (g d)) → r ≡ ranged u
     → (r ≡ Err fault.OutOfMemory) ⊎ (r ≡ and_then (λ d. within keeps (f d)) (json line))
-denoted_by keeps f g same line d b v u r k (inl m) n e = absurd cc
-denoted_by keeps f g same line d b v u r k (inr h) (inl m) e = inl (rw (e, m) refl)
-denoted_by keeps f g same line d b v u r k (inr h) (inr w) e =
+denoted_by keeps f g same line d b u r (inl m) n e = absurd cc
+denoted_by keeps f g same line d b u r (inr h) (inl m) e = inl (rw (e, m) refl)
+denoted_by keeps f g same line d b u r (inr h) (inr w) e =
     inr (rw (e, ← h, w, same d) (ranged-limited keeps (g d)))
 
 -- which keeps the limits
-pub denoted-within : {A : Type 0} (keeps : A → Bool) (x : Option A) (u : Got (Option A)) (r : Got A)
-    → (u ≡ Err fault.OutOfMemory) ⊎ (u ≡ limited keeps x) → r ≡ ranged u
+pub denoted-within : {A : Type 0} (keeps : A → Bool) (x : Option A) (u : Got (Option A))
+    (r : Got A) → (u ≡ Err fault.OutOfMemory) ⊎ (u ≡ limited keeps x) → r ≡ ranged u
     → IfOk r (λ a. IsTrue (keeps a))
 denoted-within keeps x u r (inl m) e = rw (e, m) tt
 denoted-within keeps None u r (inr w) e = rw (e, w) tt
@@ -80,13 +73,5 @@ denoted-within {A = A} keeps (Some a) u r (inr w) e = rw (e, w) (by_test (keeps 
         → IfOk (ranged {A = A} (Ok (if b then Some a else None))) (λ a. IsTrue (keeps a))
     by_test true t = rw t refl
     by_test false t = tt
-
--- and the fault of a line that is no JSON
-pub denoted_fault : {A B : Type 0} (f : Data → Got A) (line : List ℕ) (e : LineError) (v : Got B)
-    (r : Got A) → v ≡ Err e → r ≡ Err e
-    → (v ≡ Err fault.OutOfMemory) ⊎ (Err e ≡ json line)
-    → (r ≡ Err fault.OutOfMemory) ⊎ (r ≡ and_then f (json line))
-denoted_fault f line e v r d k (inl m) = let q : e ≡ fault.OutOfMemory = cc in inl (rw (← q) k)
-denoted_fault f line e v r d k (inr w) = inr (rw (← w) k)
 
 pub ruleset counts = (member_count-members_view)

@@ -2,8 +2,7 @@
 -- words tell which line it is.
 use native.Mathlib.Omega.{arith}
 use Rattle.std.proofs.Common.{◌≡◌, [], ◌∷◌, ℕ, ◌+◌, ◌==◌, List, ◌++◌, length, refl, sym, ap, ◌∙◌}
-use Rattle.std.proofs.Common.{Bool, true, false, ◌&&◌, inl, inr, codes}
-use Rattle.std.proofs.Common.{if◌then◌else◌}
+use Rattle.std.proofs.Common.{Bool, true, false, ◌&&◌, inl, inr, codes, if◌then◌else◌}
 use Rattle.std.specs.Prelude.{Option, Some, None, is_some, option_map, option_and_then}
 use Rattle.std.specs.List.{list_all}
 use Rattle.std.specs.Str.{bytes_eq}
@@ -20,14 +19,16 @@ use Rattle.gf_ops.specs.declared.change.Change.TheVariants.{Create, Set}
 use Rattle.gf_ops.specs.declared.change.Value.{Value}
 use Rattle.serde_json.specs.Data.{Data, Members}
 use Rattle.serde_json.specs.Find.{get, as_bool, as_object, as_str}
-use Rattle.gf_json.specs.LineForms.{◌&◌, all, clock, hex_colour, ids, name, natural, pair, point, radius}
-use Rattle.gf_json.specs.LineKeys.{op_keys, author_keys, create_keys, set_keys, aimed_keys}
-use Rattle.gf_json.specs.LineKeys.{await_keys, awaits, has_count, has_exactly, is_word, says, member_count}
+use Rattle.gf_json.specs.LineForms.{◌&◌, all, clock, hex_colour, ids, name, natural, pair}
+use Rattle.gf_json.specs.LineForms.{point, radius}
+use Rattle.gf_json.specs.LineKeys.{aimed_keys, author_keys, await_keys, create_keys, op_keys}
+use Rattle.gf_json.specs.LineKeys.{set_keys, awaits, has_count, has_exactly, is_word, member_count}
+use Rattle.gf_json.specs.LineKeys.{says}
 use Rattle.gf_json.specs.LineChanges.{at, change, creation, named_value, setting}
 use Rattle.gf_json.specs.OperationLines.{op_of}
 use Rattle.gf_json.specs.ScriptLines.{command_of, script_of}
-use Rattle.gf_json.specs.ReadChanges.{named_form, read_change, read_command, read_op, read_script}
-use Rattle.gf_json.specs.ReadChanges.{tells}
+use Rattle.gf_json.specs.ReadLines.{named_form, read_change, read_command, read_operation}
+use Rattle.gf_json.specs.ReadLines.{read_script_line, tells}
 use Rattle.gf_json.proofs.KeyLemmas.{list_all-append}
 
 -- ---- both of two parts
@@ -47,6 +48,10 @@ none_right (Some a) y h = rw h refl
 
 -- ---- keys
 
+-- the keys are there
+abbrev are_there : List (List ℕ) → Data → Bool
+are_there keys d = list_all (λ key. is_some (get key d)) keys
+
 missing : {A : Type 0} (key : List ℕ) (form : Data → Option A) (d : Data)
     → is_some (get key d) ≡ false → at key form d ≡ None
 missing key form d h = of_value (get key d) h
@@ -62,7 +67,7 @@ EachMissing d P (key ∷ keys) = (is_some (get key d) ≡ false → P) × EachMi
 
 -- P follows where one of the keys is not there
 by_key : {P : Type 0} (d : Data) (keys : List (List ℕ)) → EachMissing d P keys
-    → list_all (λ key. is_some (get key d)) keys ≡ false → P
+    → are_there keys d ≡ false → P
 by_key d [] each h = absurd cc
 by_key d (key ∷ keys) each h = elim (cases_Bool (is_some (get key d))) [
   | inl t ↦ by_key d keys each.1 (rw t at h)
@@ -103,10 +108,6 @@ other_count n = (grind arith, grind arith, grind arith)
 unsaid : {P : Type 0} (key word : List ℕ) (d : Data) → says key word d ≡ true
     → is_some (get key d) ≡ false → P
 unsaid key word d s n = absurd (let m = says-missing key word d n in cc)
-
--- the keys are there
-abbrev are_there : List (List ℕ) → Data → Bool
-are_there keys d = list_all (λ key. is_some (get key d)) keys
 
 creation-lacks : (f : Option Form) (p s c l v : Option Data) (place : Data → Option Point)
     (colour : Data → Option Rgb) (layer : Data → Option ℕ) (shown : Data → Option Bool)
@@ -155,17 +156,17 @@ setting-missing : (aim : Option (List OpId)) (d : Data) → are_there set_keys d
 setting-missing aim d h = setting-lacks (get (codes "object") d) (get (codes "set") d)
     (get (codes "to") d) aim name (named_value d) (unnamed d) h
 
-aimed-missing : (d : Data) → are_there aimed_keys d ≡ false → setting (at (codes "aim") ids d) d ≡ None
+aimed-missing : (d : Data) → are_there aimed_keys d ≡ false
+    → setting (at (codes "aim") ids d) d ≡ None
 aimed-missing d h = elim (cases_Bool (is_some (get (codes "aim") d))) [
   | inl t ↦ setting-missing (at (codes "aim") ids d) d (rw t at h)
-  | inr n ↦ rw (missing (codes "aim") ids d n) (no_aim (at (codes "object") name d) (at (codes "to") (named_value d) d))
+  | inr n ↦ rw (missing (codes "aim") ids d n)
+      (no_aim (at (codes "object") name d) (at (codes "to") (named_value d) d))
 ]
   where
     no_aim : (o : Option OpId) (v : Option Value) → option_map {U = Change}
         (λ (o, (v, ids)). Set (record { 0 = o }) v ids) (o & v & None) ≡ None
-    no_aim None v = refl
-    no_aim (Some i) None = refl
-    no_aim (Some i) (Some v) = refl
+    no_aim o v = grind arith
 
 -- ---- which change
 
@@ -187,12 +188,7 @@ one_setting : (T V Q R U : Bool) (s a : Option Change) → (Q ≡ false → s �
     ≡ (if T && U then s else (if V && U then a else None))
 one_setting T V Q R U s a f g t = grind arith
 
--- a creation by its kind is a creation by the form of its kind
-creation-if : (b : Bool) (x y : Option Form) (d : Data)
-    → creation (if b then x else y) d ≡ (if b then creation x d else creation y d)
-creation-if true x y d = refl
-creation-if false x y d = refl
-
+-- a creation of a kind that the line names
 creation-named_form : (d : Data) → creation (named_form d) d
     ≡ (if says (codes "kind") (codes "box") d
     then creation (option_map (λ p. Rect p.0 p.1) (at (codes "size") (pair natural) d)) d
@@ -215,11 +211,7 @@ creation-named_form d =
         (if l then y else (if m then z else (if n then w else None)))) d
         ≡ (if k then creation x d else (if l then creation y d else (if m then creation z d
         else (if n then creation w d else None))))
-    by_kind true l m n x y z w = refl
-    by_kind false true m n x y z w = refl
-    by_kind false false true n x y z w = refl
-    by_kind false false false true x y z w = refl
-    by_kind false false false false x y z w = refl
+    by_kind k l m n x y z w = grind arith
 
 -- where each key beside those of the change is there
 complete : (beside keys : List (List ℕ)) (d : Data) → are_there beside d ≡ true
@@ -305,7 +297,7 @@ unread verb beside d n =
     ) refl
 
 -- the operation of a line
-pub op_of-read : (d : Data) → op_of d ≡ read_op d
+pub op_of-read : (d : Data) → op_of d ≡ read_operation d
 op_of-read d = elim (cases_Bool (are_there op_keys d)) [
   | inl h ↦ rw (change-read (codes "op") op_keys d h) refl
   | inr h ↦
@@ -379,6 +371,6 @@ command-read d =
     ]
 
 -- the line of a script
-pub script_of-read : (d : Data) → script_of d ≡ read_script d
+pub script_of-read : (d : Data) → script_of d ≡ read_script_line d
 script_of-read d =
     ap (option_map (λ p. record { site = p.0; command = p.1 })) (command-read d)

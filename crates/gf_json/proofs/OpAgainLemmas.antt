@@ -28,43 +28,6 @@ use Rattle.gf_json.specs.WrittenLines.{creation_data, setting_data, change_data,
 use Rattle.gf_json.proofs.AgainLemmas.{ids_again, name_again, clock_again, size_again, radius_again}
 use Rattle.gf_json.proofs.AgainLemmas.{points_again, point_again, colour_again, level_again}
 
--- ---- parts that are all read
-
-option_map-Some : {A B : Type 0} (f : A → B) (x : Option A) (a : A) → x ≡ Some a
-    → option_map f x ≡ Some (f a)
-option_map-Some f x a h = rw h refl
-
-op_parts : (x : Option OpId) (y : Option Clock) (z : Option Change) (i : OpId) (p : Clock) (c : Change)
-    → x ≡ Some i → y ≡ Some p → z ≡ Some c
-    → option_map {U = Op} (λ (name, (known, new)). record { id = name; past = known; change = new })
-    (x & y & z) ≡ Some (record { id = i; past = p; change = c })
-op_parts x y z i p c h k l = rw (h, k, l) refl
-
-create_parts : (u : Option Form) (v : Option Point) (w : Option Rgb) (x : Option ℕ) (y : Option Bool)
-    (f : Form) (s : Start)
-    → u ≡ Some f → v ≡ Some s.place → w ≡ Some s.colour → x ≡ Some s.layer → y ≡ Some s.shown
-    → option_map {U = Change} (λ (shape, (at, (fill, (level, visible)))). Create (record {
-      form = shape;
-      place = at;
-      colour = fill;
-      layer = level;
-      shown = visible;
-    })) (u & v & w & x & y)
-    ≡ Some (Create (record {
-      form = f;
-      place = s.place;
-      colour = s.colour;
-      layer = s.layer;
-      shown = s.shown;
-    }))
-create_parts u v w x y f s h k l m n = rw (h, k, l, m, n) refl
-
-setting_parts : (x : Option OpId) (y : Option Value) (z : Option (List OpId)) (o : OpId) (v : Value)
-    (ids : List OpId) → x ≡ Some o → y ≡ Some v → z ≡ Some ids
-    → option_map {U = Change} (λ (p, (new, is)). Set (record { 0 = p }) new is) (x & y & z)
-    ≡ Some (Set (record { 0 = o }) v ids)
-setting_parts x y z o v ids h k l = rw (h, k, l) refl
-
 -- ---- creations
 
 creation_again : (i p : Data) (s : Start) (f : Form) → is_form f ≡ true → is_near s.place ≡ true
@@ -77,50 +40,49 @@ creation_again : (i p : Data) (s : Start) (f : Form) → is_form f ≡ true → 
       layer = s.layer;
       shown = s.shown;
     }))
-creation_again i p s (Rect width height) form near level fill =
-    let d = creation_data i p s (Rect width height) in
-    create_parts _ (at (codes "place") point d) (at (codes "colour") hex_colour d)
-    (at (codes "layer") natural d) (at (codes "shown") as_bool d)
-    (Rect width height) s
-    (option_map-Some (λ q. Rect q.0 q.1) _ (width, height) (size_again width height form))
-    (point_again s.place near) (colour_again s.colour fill) (level_again s.layer level) refl
-creation_again i p s (Polygon ps) form near level fill =
-    let d = creation_data i p s (Polygon ps) in
-    create_parts _ (at (codes "place") point d) (at (codes "colour") hex_colour d)
-    (at (codes "layer") natural d) (at (codes "shown") as_bool d)
-    (Polygon ps) s
-    (option_map-Some Polygon _ ps (points_again ps form)) (point_again s.place near)
-    (colour_again s.colour fill) (level_again s.layer level) refl
-creation_again i p s (Circle radius) form near level fill =
-    let d = creation_data i p s (Circle radius) in
-    create_parts _ (at (codes "place") point d) (at (codes "colour") hex_colour d)
-    (at (codes "layer") natural d) (at (codes "shown") as_bool d)
-    (Circle radius) s
-    (option_map-Some Circle _ radius (radius_again radius form)) (point_again s.place near)
-    (colour_again s.colour fill) (level_again s.layer level) refl
-creation_again i p s (Ellipse rx ry) form near level fill =
-    let d = creation_data i p s (Ellipse rx ry) in
-    create_parts _ (at (codes "place") point d) (at (codes "colour") hex_colour d)
-    (at (codes "layer") natural d) (at (codes "shown") as_bool d)
-    (Ellipse rx ry) s
-    (option_map-Some (λ q. Ellipse q.0 q.1) _ (rx, ry) (size_again rx ry form)) (point_again s.place near)
-    (colour_again s.colour fill) (level_again s.layer level) refl
+creation_again i p s (Rect width height) form near level fill = rw (
+  size_again width height form,
+  point_again s.place near,
+  colour_again s.colour fill,
+  level_again s.layer level,
+) refl
+creation_again i p s (Polygon ps) form near level fill = rw (
+  points_again ps form,
+  point_again s.place near,
+  colour_again s.colour fill,
+  level_again s.layer level,
+) refl
+creation_again i p s (Circle radius) form near level fill = rw (
+  radius_again radius form,
+  point_again s.place near,
+  colour_again s.colour fill,
+  level_again s.layer level,
+) refl
+creation_again i p s (Ellipse rx ry) form near level fill = rw (
+  size_again rx ry form,
+  point_again s.place near,
+  colour_again s.colour fill,
+  level_again s.layer level,
+) refl
 
 -- ---- settings
 
+-- the value that d sets an attribute to
+abbrev value_of : Data → Option Value
+value_of d = at (codes "to") (named_value d) d
+
 value_again : (i p : Data) (o : ObjectId) (v : Value) → is_value v ≡ true
-    → at (codes "to") (named_value (setting_data i p o v [])) (setting_data i p o v []) ≡ Some v
-value_again i p o (value.Place q) h = option_map-Some value.Place _ q (point_again q h)
-value_again i p o (value.Points ps) h = option_map-Some value.Points _ ps (points_again ps h)
-value_again i p o (value.Size width height) h = option_map-Some (λ s. value.Size s.0 s.1) _
-    (width, height) (size_again width height h)
-value_again i p o (value.Colour c) h = option_map-Some value.Colour _ c (colour_again c h)
-value_again i p o (value.Layer n) h = option_map-Some value.Layer _ n (level_again n h)
+    → value_of (setting_data i p o v []) ≡ Some v
+value_again i p o (value.Place q) h = rw (point_again q h) refl
+value_again i p o (value.Points ps) h = rw (points_again ps h) refl
+value_again i p o (value.Size width height) h = rw (size_again width height h) refl
+value_again i p o (value.Colour c) h = rw (colour_again c h) refl
+value_again i p o (value.Layer n) h = rw (level_again n h) refl
 value_again i p o (value.Shown b) h = refl
 
 -- the key of an aim changes nothing of the value
 aimed_value : (i p : Data) (o : ObjectId) (v : Value) (j : OpId) (js : List OpId)
-    → at (codes "to") (named_value (setting_data i p o v (j ∷ js))) (setting_data i p o v (j ∷ js)) ≡ at (codes "to") (named_value (setting_data i p o v [])) (setting_data i p o v [])
+    → value_of (setting_data i p o v (j ∷ js)) ≡ value_of (setting_data i p o v [])
 aimed_value i p o (value.Place q) j js = refl
 aimed_value i p o (value.Points ps) j js = refl
 aimed_value i p o (value.Size width height) j js = refl
@@ -128,20 +90,24 @@ aimed_value i p o (value.Colour c) j js = refl
 aimed_value i p o (value.Layer n) j js = refl
 aimed_value i p o (value.Shown b) j js = refl
 
-setting_again : (i p : Data) (o : ObjectId) (v : Value) (ids : List OpId) → is_id o.0 ≡ true
-    → is_value v ≡ true → is_aim ids ≡ true
-    → change (codes "op") op_keys (setting_data i p o v ids) ≡ Some (Set o v ids)
+setting_parts : (x : Option OpId) (y : Option Value) (z : Option (List OpId)) (o : OpId)
+    (v : Value) (ids : List OpId) → x ≡ Some o → y ≡ Some v → z ≡ Some ids
+    → option_map {U = Change} (λ (p, (new, is)). Set (record { 0 = p }) new is) (x & y & z)
+    ≡ Some (Set (record { 0 = o }) v ids)
+setting_parts x y z o v ids h k l = rw (h, k, l) refl
+
+setting_again : (i p : Data) (o : ObjectId) (v : Value) (aim : List OpId) → is_id o.0 ≡ true
+    → is_value v ≡ true → is_aim aim ≡ true
+    → change (codes "op") op_keys (setting_data i p o v aim) ≡ Some (Set o v aim)
 setting_again i p o v [] named h few =
     let d = setting_data i p o v [] in
-    setting_parts (at (codes "object") name d) (at (codes "to") (named_value d) d) (Some []) o.0 v []
-    (name_again o.0 named)
-    (value_again i p o v h) refl
+    setting_parts (at (codes "object") name d) (value_of d) (Some []) o.0 v []
+    (name_again o.0 named) (value_again i p o v h) refl
 setting_again i p o v (j ∷ js) named h few =
     let d = setting_data i p o v (j ∷ js) in
-    setting_parts (at (codes "object") name d) (at (codes "to") (named_value d) d)
-    (at (codes "aim") ids d) o.0 v (j ∷ js)
-    (name_again o.0 named)
-    (aimed_value i p o v j js ∙ value_again i p o v h) (ids_again (j ∷ js) few)
+    setting_parts (at (codes "object") name d) (value_of d) (at (codes "aim") ids d) o.0 v (j ∷ js)
+    (name_again o.0 named) (aimed_value i p o v j js ∙ value_again i p o v h)
+    (ids_again (j ∷ js) few)
 
 -- ---- operations
 
@@ -158,7 +124,8 @@ change_again i p (Set o v ids) h =
     let first = and_parts (is_id o.0) (is_value v) rest.0 in
     setting_again i p o v ids first.0 first.1 rest.1
 
-id-creation_data : (i p : Data) (s : Start) (f : Form) → at (codes "id") name (creation_data i p s f) ≡ name i
+id-creation_data : (i p : Data) (s : Start) (f : Form)
+    → at (codes "id") name (creation_data i p s f) ≡ name i
 id-creation_data i p s (Rect width height) = refl
 id-creation_data i p s (Polygon ps) = refl
 id-creation_data i p s (Circle radius) = refl
@@ -176,7 +143,8 @@ past-creation_data i p s (Polygon ps) = refl
 past-creation_data i p s (Circle radius) = refl
 past-creation_data i p s (Ellipse rx ry) = refl
 
-past-change_data : (i p : Data) (c : Change) → at (codes "past") clock (change_data i p c) ≡ clock p
+past-change_data : (i p : Data) (c : Change)
+    → at (codes "past") clock (change_data i p c) ≡ clock p
 past-change_data i p (Create s) = past-creation_data i p s s.form
 past-change_data i p (Set o v []) = refl
 past-change_data i p (Set o v (j ∷ js)) = refl
@@ -184,11 +152,14 @@ past-change_data i p (Set o v (j ∷ js)) = refl
 -- an operation within the limits, with a clock of eight entries
 pub op_of-data_of : (a : Op) → length a.past.0 ≡ 8 → IsInRange a → op_of (data_of a) ≡ Some a
 op_of-data_of a eight h =
+    let i = name_data a.id in
+    let p = clock_data a.past in
     let rest = and_parts (is_id a.id && is_clock a.past) (is_change a.change) h in
     let first = and_parts (is_id a.id) (is_clock a.past) rest.0 in
-    let d = data_of a in
-    op_parts (at (codes "id") name d) (at (codes "past") clock d) (change (codes "op") op_keys d) a.id a.past a.change
-    (id-change_data (name_data a.id) (clock_data a.past) a.change ∙ name_again a.id first.0)
-    (past-change_data (name_data a.id) (clock_data a.past) a.change
-    ∙ clock_again a.past eight first.1)
-    (change_again (name_data a.id) (clock_data a.past) a.change rest.1)
+    rw (
+      id-change_data i p a.change,
+      name_again a.id first.0,
+      past-change_data i p a.change,
+      clock_again a.past eight first.1,
+      change_again i p a.change rest.1,
+    ) refl

@@ -1,4 +1,4 @@
--- Parts that are read, and what is made of them.
+-- What is made of parts that are read keeps its limits where they do.
 use Rattle.std.proofs.Common.{◌≡◌, ◌⊎◌, inl, inr, ℕ, Bool, ◌&&◌, List, arith, Ok, Err}
 use Rattle.std.specs.Prelude.{Option, option_map}
 use Rattle.gf_plane.specs.declared.colour.Rgb.{Rgb}
@@ -27,6 +27,8 @@ pub served : {A : Type 0} (a : A) (e : LineError) (g : Got A)
 served a e g (inl m) = absurd cc
 served a e g (inr h) = h
 
+-- ---- a new object
+
 abbrev Look : Type 0
 Look = Rgb × (ℕ × Bool)
 
@@ -37,23 +39,27 @@ abbrev create : Form × (Point × Look) → Change
 create (f, (p, (c, (l, s)))) =
     Create (record { form = f; place = p; colour = c; layer = l; shown = s })
 
-pub create_limited : (f u : Option Form) (p v : Option Point) (l w : Option Look) → Reads is_form u f
-    → Reads is_near v p → Reads is_look w l
+pub create_limited : (f u : Option Form) (p v : Option Point) (l w : Option Look)
+    → Reads is_form u f → Reads is_near v p → Reads is_look w l
     → Reads is_change (option_map create (u & v & w)) (option_map create (f & p & l))
 create_limited f u p v l w h k m = grind arith
+
+-- ---- a new value
 
 abbrev set : OpId × (Value × List OpId) → Change
 set (o, (v, ids)) = Set (record { 0 = o }) v ids
 
-pub set_limited : (o u : Option OpId) (n v : Option Value) (a w : Option (List OpId)) → Reads is_id u o
-    → Reads is_value v n → Reads is_aim w a
+pub set_limited : (o u : Option OpId) (n v : Option Value) (a w : Option (List OpId))
+    → Reads is_id u o → Reads is_value v n → Reads is_aim w a
     → Reads is_change (option_map set (u & v & w)) (option_map set (o & n & a))
 set_limited o u n v a w h k m = grind arith
+
+-- ---- a line that keeps versions
 
 abbrev keep : ℕ × (OpId × List OpId) → KeepLine
 keep p = record { site = p.0; object = record { 0 = p.1.0 }; with = p.1.1 }
 
-pub keep_limited : (s u : Option ℕ) (o v : Option OpId) (a w : Option (List OpId)) → Reads is_site u s
-    → Reads is_id v o → Reads is_aim w a
+pub keep_limited : (s u : Option ℕ) (o v : Option OpId) (a w : Option (List OpId))
+    → Reads is_site u s → Reads is_id v o → Reads is_aim w a
     → Reads is_keep (option_map keep (u & v & w)) (option_map keep (s & o & a))
 keep_limited s u o v a w h k m = grind arith

@@ -72,7 +72,8 @@ site-create_data n s (Polygon ps) h = site_again n h
 site-create_data n s (Circle radius) h = site_again n h
 site-create_data n s (Ellipse rx ry) h = site_again n h
 
-site-line_data : (n : ℕ) (c : Command) → is_site n ≡ true → at (codes "site") natural (line_data n c) ≡ Some n
+site-line_data : (n : ℕ) (c : Command) → is_site n ≡ true
+    → at (codes "site") natural (line_data n c) ≡ Some n
 site-line_data n (Author (Create s)) h = site-create_data n s s.form h
 site-line_data n (Author (Set o v [])) h = site_again n h
 site-line_data n (Author (Set o v (j ∷ js))) h = site_again n h

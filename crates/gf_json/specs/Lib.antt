@@ -7,7 +7,7 @@ pub mod ScriptLines
 pub mod KeepLines
 pub mod Limited
 pub mod ReadLists
-pub mod ReadChanges
+pub mod ReadLines
 pub mod WrittenValues
 pub mod WrittenLines
 pub mod WrittenMembers

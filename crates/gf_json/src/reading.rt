@@ -11,7 +11,7 @@ ghost use Rattle.gf_json.specs.OperationLines.{json, denoted};
 ghost use Rattle.gf_json.specs.ScriptLines.{IsScriptInRange, is_command, is_script};
 ghost use Rattle.gf_json.specs.ScriptLines.{script_denoted};
 ghost use Rattle.gf_json.specs.KeepLines.{IsKeepInRange, is_keep, keep_of, keep_denoted};
-ghost use Rattle.gf_json.specs.ReadChanges.{read_command, read_op, read_script};
+ghost use Rattle.gf_json.specs.ReadLines.{read_command, read_operation, read_script_line};
 ghost use Rattle.gf_json.specs.Limited.{limited, ranged};
 
 mod aims;
@@ -90,9 +90,10 @@ fn json(alloc: Global, line: &[u8]) -> Result<Value, LineError>
     }
 }
 
+/// The operation of a line's value.
 fn op_of(alloc: Global, line: &Value) -> Result<Option<Op>, LineError>
     ensures { (result ≡ Err LineError.OutOfMemory)
-        ⊎ (result ≡ limited is_in_range (read_op (view line.now))) }
+        ⊎ (result ≡ limited is_in_range (read_operation (view line.now))) }
 {
     let id = name(line.get("id"))?;
     let past = clock(line.get("past"))?;
@@ -102,7 +103,8 @@ fn op_of(alloc: Global, line: &Value) -> Result<Option<Op>, LineError>
 
 /// The operation of these parts.
 fn op(id: Option<OpId>, past: Option<Clock>, change: Option<Change>) -> Option<Op>
-    ensures { result ≡ option_map (λ (i, (known, new)). record { id = i; past = known; change = new })
+    ensures { result ≡ option_map
+        (λ (i, (known, new)). record { id = i; past = known; change = new })
         (id & past & change) }
 {
     Some(Op {
@@ -112,16 +114,17 @@ fn op(id: Option<OpId>, past: Option<Clock>, change: Option<Change>) -> Option<O
     })
 }
 
+/// The line of a script, by its value.
 fn script_of(alloc: Global, line: &Value) -> Result<Option<ScriptLine>, LineError>
     ensures { (result ≡ Err LineError.OutOfMemory)
-        ⊎ (result ≡ limited is_script (read_script (view line.now))) }
+        ⊎ (result ≡ limited is_script (read_script_line (view line.now))) }
 {
     let site = site(line.get("site"))?;
     let command = command(alloc, line)?;
     Ok(script(site, command))
 }
 
-/// The command to this site.
+/// The line of this command to this site.
 fn script(site: Option<u8>, command: Option<Command>) -> Option<ScriptLine>
     ensures { result ≡ option_map (λ p. record { site = p.0; command = p.1 }) (site & command) }
 {
@@ -131,7 +134,8 @@ fn script(site: Option<u8>, command: Option<Command>) -> Option<ScriptLine>
     })
 }
 
-#[tactic(auto, unfolding(crate::specs::ReadChanges::read_command))]
+/// The command of a line: to wait for an operation, or to make a change.
+#[tactic(auto, unfolding(crate::specs::ReadLines::read_command))]
 fn command(alloc: Global, line: &Value) -> Result<Option<Command>, LineError>
     ensures { (result ≡ Err LineError.OutOfMemory)
         ⊎ (result ≡ limited is_command (read_command (view line.now))) }
@@ -143,6 +147,7 @@ fn command(alloc: Global, line: &Value) -> Result<Option<Command>, LineError>
     }
 }
 
+/// What a line that keeps versions says, by its value.
 fn keep_of(alloc: Global, line: &Value) -> Result<Option<KeepLine>, LineError>
     ensures { (result ≡ Err LineError.OutOfMemory)
         ⊎ (result ≡ limited is_keep (keep_of (view line.now))) }
@@ -159,7 +164,8 @@ fn kept(alloc: Global, line: &Value) -> Result<Option<KeepLine>, LineError>
     ensures { (result ≡ Err LineError.OutOfMemory)
         ⊎ (result ≡ limited is_keep (option_map
         (λ p. record { site = p.0; object = record { 0 = p.1.0 }; with = p.1.1 })
-        (at (codes "site") form.natural (view line.now) & at (codes "object") form.name (view line.now)
+        (at (codes "site") form.natural (view line.now)
+        & at (codes "object") form.name (view line.now)
         & at (codes "with") form.ids (view line.now)))) }
 {
     let site = site(line.get("site"))?;
@@ -168,7 +174,7 @@ fn kept(alloc: Global, line: &Value) -> Result<Option<KeepLine>, LineError>
     Ok(keep(site, object, with))
 }
 
-/// The site, the object and the ids.
+/// The line of these parts.
 fn keep(site: Option<u8>, object: Option<OpId>, with: Option<Ids>) -> Option<KeepLine>
     ensures { result ≡ option_map
         (λ p. record { site = p.0; object = record { 0 = p.1.0 }; with = p.1.1 })

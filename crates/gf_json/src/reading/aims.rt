@@ -1,6 +1,7 @@
 //! The ids that an operation aims at: every element is checked before any memory is taken.
 
-ghost use Rattle.std.specs.Prelude.{◌≡◌, ◌⊎◌, All, Some, Err, IfOk, map, option_map, option_and_then};
+ghost use Rattle.std.specs.Prelude.{◌≡◌, ◌⊎◌, All, Some, Err, IfOk, map, option_map};
+ghost use Rattle.std.specs.Prelude.{option_and_then};
 ghost use Rattle.std.specs.Option.{ok_or};
 ghost use Rattle.std.specs.List.{list_all};
 ghost use Rattle.serde_json.specs.View.{view, items_view};
@@ -57,7 +58,8 @@ fn is_aim(values: &[Value]) -> Result<bool, LineError>
 
 /// Whether each value is a pair of whole numbers, and the pairs rise, each once.
 fn are_rising(values: &[Value]) -> bool
-    ensures { result ≡ rising (form.each (form.pair form.whole) (form.elements (items_view values.now))) }
+    ensures { result ≡ rising
+        (form.each (form.pair form.whole) (form.elements (items_view values.now))) }
 {
     let Some((first, others)) = values.split_first() else {
         return true;
@@ -70,7 +72,8 @@ fn are_rising(values: &[Value]) -> bool
 
 /// Whether the pairs of the values rise behind a pair.
 fn rise_behind(first: (i64, i64), values: &[Value]) -> bool
-    ensures { result ≡ rising_behind first (form.each (form.pair form.whole) (form.elements (items_view values.now))) }
+    ensures { result ≡ rising_behind first
+        (form.each (form.pair form.whole) (form.elements (items_view values.now))) }
 {
     let mut last = first;
     for value in values {
@@ -115,6 +118,7 @@ fn names(alloc: Global, values: &[Value]) -> Result<Vec<OpId>, AllocError>
     Ok(ids)
 }
 
+/// The id that a value names.
 fn named(value: &Value) -> OpId
     requires { IsKept is_id (form.name (view value.now)) }
     ensures { form.name (view value.now) ≡ Some result }

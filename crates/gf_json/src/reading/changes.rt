@@ -8,7 +8,7 @@ ghost use Rattle.gf_ops.specs.declared.change.Value.TheVariants as attribute;
 ghost use Rattle.gf_json.specs.LineForms as form;
 ghost use Rattle.gf_json.specs.LineForms.{◌&◌};
 ghost use Rattle.gf_json.specs.LineChanges.{at, creation, named_value, setting};
-ghost use Rattle.gf_json.specs.ReadChanges.{named_form, read_change};
+ghost use Rattle.gf_json.specs.ReadLines.{named_form, read_change};
 ghost use Rattle.gf_json.specs.Limited.{limited};
 
 use crate::LineError;
@@ -24,7 +24,7 @@ use std::alloc::Global;
 /// The change of a line with its verb at this key, and this many keys beside those of the change.
 /// The number of keys and the words show which line it is. A missing key is a fault of form where
 /// it is read.
-#[tactic(auto, unfolding(crate::specs::ReadChanges::read_change))]
+#[tactic(auto, unfolding(crate::specs::ReadLines::read_change))]
 pub(crate) fn change(
     alloc: Global,
     line: &Value,
@@ -97,7 +97,7 @@ fn look(line: &Value) -> Result<Option<(Rgb, (u16, bool))>, LineError>
 }
 
 /// The form of the kind that the line names.
-#[tactic(auto, unfolding(crate::specs::ReadChanges::named_form))]
+#[tactic(auto, unfolding(crate::specs::ReadLines::named_form))]
 fn named_form(alloc: Global, line: &Value) -> Result<Option<Form>, LineError>
     ensures { (result ≡ Err LineError.OutOfMemory)
         ⊎ (result ≡ limited is_form (named_form (view line.now))) }
@@ -116,6 +116,7 @@ fn named_form(alloc: Global, line: &Value) -> Result<Option<Form>, LineError>
     }
 }
 
+/// The form of a box.
 fn rect(line: &Value) -> Result<Option<Form>, LineError>
     ensures { result ≡ limited is_form
         (option_map (λ p. Form.Rect p.0 p.1)
@@ -127,6 +128,7 @@ fn rect(line: &Value) -> Result<Option<Form>, LineError>
     }
 }
 
+/// The form of a circle.
 fn circle(line: &Value) -> Result<Option<Form>, LineError>
     ensures { result ≡ limited is_form
         (option_map Form.Circle (at (codes "size") form.radius (view line.now))) }
@@ -134,6 +136,7 @@ fn circle(line: &Value) -> Result<Option<Form>, LineError>
     Ok(radius(line.get("size"))?.map(Form::Circle))
 }
 
+/// The form of an ellipse.
 fn ellipse(line: &Value) -> Result<Option<Form>, LineError>
     ensures { result ≡ limited is_form
         (option_map (λ p. Form.Ellipse p.0 p.1)
@@ -145,6 +148,7 @@ fn ellipse(line: &Value) -> Result<Option<Form>, LineError>
     }
 }
 
+/// The form of a polygon.
 fn polygon(alloc: Global, line: &Value) -> Result<Option<Form>, LineError>
     ensures { (result ≡ Err LineError.OutOfMemory)
         ⊎ (result ≡ limited is_form
@@ -187,6 +191,7 @@ fn setting(object: Option<OpId>, value: Option<gf_ops::Value>, aim: Option<Ids>)
     })
 }
 
+/// The value that the attribute is set to.
 fn new_value(alloc: Global, line: &Value) -> Result<Option<gf_ops::Value>, LineError>
     ensures { (result ≡ Err LineError.OutOfMemory)
         ⊎ (result ≡ limited is_value
@@ -225,6 +230,7 @@ fn named_value(
     }
 }
 
+/// A size as a value.
 fn size_value(value: &Value) -> Result<Option<gf_ops::Value>, LineError>
     ensures { result ≡ limited is_value
         (option_map (λ s. attribute.Size s.0 s.1) (form.pair form.natural (view value.now))) }
@@ -235,6 +241,7 @@ fn size_value(value: &Value) -> Result<Option<gf_ops::Value>, LineError>
     }
 }
 
+/// A colour as a value.
 fn colour_value(value: &Value) -> Result<Option<gf_ops::Value>, LineError>
     ensures { result ≡ limited is_value
         (option_map attribute.Colour (form.hex_colour (view value.now))) }
@@ -245,6 +252,7 @@ fn colour_value(value: &Value) -> Result<Option<gf_ops::Value>, LineError>
     }
 }
 
+/// Whether an object is shown, as a value.
 fn shown_value(value: &Value) -> Result<Option<gf_ops::Value>, LineError>
     ensures { result ≡ limited is_value (option_map attribute.Shown (as_bool (view value.now))) }
 {

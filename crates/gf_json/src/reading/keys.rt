@@ -4,7 +4,7 @@ ghost use Rattle.std.specs.Prelude.{◌≡◌, option_and_then, option_copied};
 ghost use Rattle.serde_json.specs.View.{view};
 ghost use Rattle.serde_json.specs.Find.{get, as_object, as_str};
 ghost use Rattle.gf_json.specs.LineKeys.{has_count, says, is_word};
-ghost use Rattle.gf_json.specs.ReadChanges.{tells};
+ghost use Rattle.gf_json.specs.ReadLines.{tells};
 
 use serde_json::Value;
 

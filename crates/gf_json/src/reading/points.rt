@@ -1,6 +1,7 @@
 //! The points of a polygon: every element is checked before any memory is taken.
 
-ghost use Rattle.std.specs.Prelude.{◌≡◌, ◌⊎◌, All, Some, Err, IfOk, map, option_map, option_and_then};
+ghost use Rattle.std.specs.Prelude.{◌≡◌, ◌⊎◌, All, Some, Err, IfOk, map, option_map};
+ghost use Rattle.std.specs.Prelude.{option_and_then};
 ghost use Rattle.std.specs.Option.{ok_or};
 ghost use Rattle.std.specs.List.{list_all};
 ghost use Rattle.serde_json.specs.View.{view, items_view};
@@ -78,6 +79,7 @@ fn near_points(alloc: Global, values: &[Value]) -> Result<Vec<Point>, AllocError
     Ok(points)
 }
 
+/// The point that a value is.
 fn near_point(value: &Value) -> Point
     requires { IsKept is_near (form.point (view value.now)) }
     ensures { form.point (view value.now) ≡ Some result }

@@ -1,7 +1,7 @@
 //! The values of a line: their forms, and within these their limits.
 
-ghost use Rattle.std.specs.Prelude.{◌≡◌, ◌≤◌, ◌&&◌, pos, negsuc, int_le, nat_le, ◌∷◌, ◌++◌, [], IfSome};
-ghost use Rattle.std.specs.Prelude.{option_map, option_and_then};
+ghost use Rattle.std.specs.Prelude.{◌≡◌, ◌≤◌, ◌&&◌, pos, negsuc, int_le, nat_le, ◌∷◌, ◌++◌, []};
+ghost use Rattle.std.specs.Prelude.{IfSome, option_map, option_and_then};
 ghost use Rattle.std.specs.List.{list_all};
 ghost use Rattle.serde_json.specs.Find.{as_bool};
 ghost use Rattle.serde_json.specs.View.{view, items_view};
@@ -27,7 +27,8 @@ pub(crate) fn elements(value: Option<&Value>) -> Option<&[Value]>
 /// The two whole numbers of an array.
 #[tactic(auto, using(crate::proofs::ArrayLemmas::not_two))]
 pub(crate) fn numbers(value: Option<&Value>) -> Option<(i64, i64)>
-    ensures { result ≡ option_and_then (form.pair form.whole) (option_map (λ v. view v.now) value.entry) }
+    ensures { result
+        ≡ option_and_then (form.pair form.whole) (option_map (λ v. view v.now) value.entry) }
 {
     match elements(value)? {
         [a, b] => Some((a.as_i64()?, b.as_i64()?)),
@@ -35,26 +36,28 @@ pub(crate) fn numbers(value: Option<&Value>) -> Option<(i64, i64)>
     }
 }
 
+/// A whole number.
 fn whole(value: Option<&Value>) -> Option<i64>
     ensures { result ≡ option_and_then form.whole (option_map (λ v. view v.now) value.entry) }
 {
     value?.as_i64()
 }
 
+/// True or false.
 pub(crate) fn truth(value: Option<&Value>) -> Option<bool>
     ensures { result ≡ option_and_then as_bool (option_map (λ v. view v.now) value.entry) }
 {
     value?.as_bool()
 }
 
-/// The colour of a string of six hexadecimal digits. It keeps its limits.
+/// The colour of six hexadecimal digits, which keeps its limits.
 pub(crate) fn hex_colour(value: Option<&Value>) -> Option<Rgb>
     ensures { result ≡ option_and_then form.hex_colour (option_map (λ v. view v.now) value.entry) }
 {
     rgb_of_hex(value?.as_str()?.as_bytes())
 }
 
-/// The number from 0 on, if it lies between the two limits.
+/// The number, if it lies from the one limit to the other.
 #[tactic(auto, using(std::proofs::lemmas::Int::ints, crate::proofs::FormLemmas::signs))]
 fn number(n: i64, low: u32, high: u32) -> Option<u32>
     ensures value { result ≡ kept (is_between low high) (form.from_zero n) }
@@ -79,6 +82,7 @@ pub(crate) fn site(value: Option<&Value>) -> Result<Option<u8>, LineError>
     }
 }
 
+/// The site of a number, if it is in range.
 fn site_of(n: i64) -> Option<u8>
     ensures { result ≡ kept is_site (form.from_zero n) }
 {
@@ -98,6 +102,7 @@ pub(crate) fn level(value: Option<&Value>) -> Result<Option<u16>, LineError>
     }
 }
 
+/// The layer of a number, if it is in range.
 #[tactic(auto, using(crate::proofs::FormLemmas::bounds))]
 fn layer_of(n: i64) -> Option<u16>
     ensures { result ≡ kept is_layer (form.from_zero n) }
@@ -117,6 +122,7 @@ pub(crate) fn name(value: Option<&Value>) -> Result<Option<OpId>, LineError>
     }
 }
 
+/// The id of two numbers, if both are in range.
 fn id_of(site: i64, seq: i64) -> Option<OpId>
     ensures { result ≡ kept is_id (form.id_of (site, seq)) }
 {
@@ -137,6 +143,7 @@ pub(crate) fn size(value: Option<&Value>) -> Result<Option<(u32, u32)>, LineErro
     }
 }
 
+/// The size of two numbers, if both are in range.
 fn size_of(width: i64, height: i64) -> Option<(u32, u32)>
     ensures { result ≡ kept (λ s. is_size s.0 && is_size s.1)
         (form.from_zero width, form.from_zero height) }
@@ -172,6 +179,7 @@ pub(crate) fn point(value: Option<&Value>) -> Result<Option<Point>, LineError>
     }
 }
 
+/// The point of two numbers, if it is near.
 #[tactic(auto, using(std::proofs::lemmas::Int::ints), unfolding(gf_ops::specs::Limits::is_near))]
 fn point_of(x: i64, y: i64) -> Option<Point>
     ensures { result ≡ kept is_near (record { x = x; y = y }) }
@@ -181,6 +189,7 @@ fn point_of(x: i64, y: i64) -> Option<Point>
     Some(Point { x, y })
 }
 
+/// The coordinate of a number, if it is near.
 #[tactic(auto, using(std::proofs::lemmas::Int::ints))]
 fn coordinate(n: i64) -> Option<i32>
     ensures { result ≡ kept (λ z. int_le (negsuc 999999) z && int_le z (pos 1000000)) n }
@@ -203,6 +212,7 @@ pub(crate) fn clock(value: Option<&Value>) -> Result<Option<Clock>, LineError>
     }
 }
 
+/// The clock of the elements of an array.
 #[tactic(auto, using(crate::proofs::ArrayLemmas::not_eight))]
 fn clock_of(values: &[Value]) -> Result<Option<Clock>, LineError>
     ensures { result ≡ limited is_clock (clock_of (form.elements (items_view values.now))) }
@@ -226,12 +236,15 @@ fn four(a: &Value, b: &Value, c: &Value, d: &Value) -> Result<Option<[u32; 4]>, 
     }
 }
 
+/// The entries of four numbers, if all are in range.
 fn entries(a: i64, b: i64, c: i64, d: i64) -> Option<[u32; 4]>
-    ensures { result ≡ kept (list_all (λ n. nat_le n 10000)) (form.from_zero a ∷ form.from_zero b ∷ form.from_zero c ∷ form.from_zero d ∷ []) }
+    ensures { result ≡ kept (list_all (λ n. nat_le n 10000))
+        (form.from_zero a ∷ form.from_zero b ∷ form.from_zero c ∷ form.from_zero d ∷ []) }
 {
     Some([entry(a)?, entry(b)?, entry(c)?, entry(d)?])
 }
 
+/// The entry of a number, if it is in range.
 #[tactic(auto, using(crate::proofs::FormLemmas::bounds))]
 fn entry(n: i64) -> Option<u32>
     ensures { result ≡ kept (λ n. nat_le n 10000) (form.from_zero n) }
@@ -239,7 +252,7 @@ fn entry(n: i64) -> Option<u32>
     number(n, 0, 10_000)
 }
 
-/// The clock of the entries that keep their limits.
+/// The clock of four entries and four, if all are in range.
 fn eight(first: Option<[u32; 4]>, last: Option<[u32; 4]>) -> Option<Clock>
     ensures { result ≡ option_map (λ p. record { 0 = p.0 ++ p.1 }) (first & last) }
 {

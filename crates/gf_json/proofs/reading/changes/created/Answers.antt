@@ -3,7 +3,7 @@ use Rattle.serde_json.specs.Find.{as_bool}
 use Rattle.serde_json.specs.View.{view}
 use Rattle.gf_json.specs.LineForms.{◌&◌, hex_colour, natural, point}
 use Rattle.gf_json.specs.LineChanges.{at}
-use Rattle.gf_json.specs.ReadChanges.{named_form}
+use Rattle.gf_json.specs.ReadLines.{named_form}
 use Rattle.gf_json.proofs.PartLemmas.{create_limited, served}
 use Rattle.gf_json.proofs.reading.changes.created.Goals as goal
 

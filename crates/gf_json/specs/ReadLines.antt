@@ -1,4 +1,4 @@
--- The line by the number of its keys and by its words alone, whatever its limits. No public clause
+-- A line by the number of its keys and by its words alone, whatever its limits. No public clause
 -- cites this module.
 use Rattle.std.specs.Prelude.{ℕ, ◌+◌, Bool, ◌&&◌, List, [], Option, Some, None, option_map, codes}
 use Rattle.std.specs.Prelude.{if◌then◌else◌}
@@ -41,8 +41,8 @@ read_change verb beside d =
     else None))
 
 -- the operation of a line
-abbrev pub read_op : Data → Option Op
-read_op d = option_map (λ (i, (known, new)). record { id = i; past = known; change = new })
+abbrev pub read_operation : Data → Option Op
+read_operation d = option_map (λ (i, (known, new)). record { id = i; past = known; change = new })
     (at (codes "id") name d & at (codes "past") clock d & read_change (codes "op") 3 d)
 
 -- the command of a line: to wait for an operation, or to make a change
@@ -52,6 +52,6 @@ read_command d =
     else option_map Author (read_change (codes "do") 2 d)
 
 -- the line of a script
-abbrev pub read_script : Data → Option ScriptLine
-read_script d = option_map (λ p. record { site = p.0; command = p.1 })
+abbrev pub read_script_line : Data → Option ScriptLine
+read_script_line d = option_map (λ p. record { site = p.0; command = p.1 })
     (at (codes "site") natural d & read_command d)
