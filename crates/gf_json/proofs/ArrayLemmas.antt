@@ -1,6 +1,6 @@
 -- Arrays of the length that is asked for, and of another.
 use Rattle.std.proofs.Common.{◌≡◌, ℕ, ◌≤◌, ◌<◌, ◌==◌, List, [], ◌∷◌, ◌++◌, length, refl, arith, ◌∙◌}
-use Rattle.std.proofs.Common.{Bool, true, false, ◌&&◌, nat_le, Ok, Err, get_or, if◌then◌else◌}
+use Rattle.std.proofs.Common.{Bool, false, nat_le, Ok, Err, get_or, if◌then◌else◌}
 use Rattle.std.specs.Prelude.{Option, Some, None, option_map, option_and_then}
 use Rattle.std.specs.List.{list_all}
 use Rattle.gf_ops.specs.declared.op.Clock.{Clock}
@@ -134,7 +134,13 @@ pub entries_limited : (x y u v : Option (List ℕ))
     → Ok (option_map joined (u & v)) ≡ limited is_clock (option_map joined (x & y))
 entries_limited x y u v h k = grind (arith, list_all-append)
 
--- and has the fault of the last four
+-- and has the fault of the first four
+pub first_fault : (e : LineError) (x y : Option (List ℕ))
+    → ◌≡◌ {A = Got (Option (List ℕ))} (Err e) (limited are_entries x)
+    → Err e ≡ limited is_clock (option_map joined (x & y))
+first_fault e x y h = grind arith
+
+-- or of the last
 pub last_fault : (e : LineError) (x y : Option (List ℕ))
     → ◌≡◌ {A = Got (Option (List ℕ))} (Err e) (limited are_entries y)
     → Err e ≡ limited is_clock (option_map joined (x & y))

@@ -17,7 +17,7 @@ use Rattle.serde_json.specs.Data.{Data}
 use Rattle.serde_json.specs.declared.value.Value.{Value}
 use Rattle.serde_json.specs.View.{items_view, view}
 use Rattle.gf_json.specs.LineForms.{◌&◌, each, elements, id_of, name, pair, pair_cmp, whole}
-use Rattle.gf_json.specs.ReadLists.{ids_of, next_behind, rising, rising_behind}
+use Rattle.gf_json.specs.ReadLists.{ids_of, next_behind, rising_behind}
 use Rattle.gf_json.proofs.ArrayLemmas.{length-form}
 
 -- names are the ids of pairs of whole numbers
@@ -69,41 +69,42 @@ pairs_more vs k o l is =
     ∙ ap (λ (v : Value). option_map {U = List (ℤ × ℤ)} (λ r. r.0 ∷ r.1) (pair whole (view v)
     & pairs_of (drop (k + 1) vs))) (sym is)
 
-more : (p q : ℤ × ℤ) (x : Option (ℤ × ℤ)) (y : Option (List (ℤ × ℤ))) → next_behind p x ≡ Some q
-    → rising_behind p (option_map (λ r. r.0 ∷ r.1) (x & y)) ≡ rising_behind q y
-more p q x y h = grind arith
+more : (last : Option (ℤ × ℤ)) (q : ℤ × ℤ) (x : Option (ℤ × ℤ)) (y : Option (List (ℤ × ℤ)))
+    → next_behind last x ≡ Some q
+    → rising_behind last (option_map (λ r. r.0 ∷ r.1) (x & y)) ≡ rising_behind (Some q) y
+more last q x y h = grind arith
 
-stops : (p : ℤ × ℤ) (x : Option (ℤ × ℤ)) (y : Option (List (ℤ × ℤ))) → next_behind p x ≡ None
-    → rising_behind p (option_map (λ r. r.0 ∷ r.1) (x & y)) ≡ false
-stops p x y h = grind arith
+stops : (last x : Option (ℤ × ℤ)) (y : Option (List (ℤ × ℤ))) → next_behind last x ≡ None
+    → rising_behind last (option_map (λ r. r.0 ∷ r.1) (x & y)) ≡ false
+stops last x y h = grind arith
 
 -- a value that is behind the last pair, and those behind it
-pub rise_more : (first last next : ℤ × ℤ) (vs : List Value) (k : ℕ) (o : Value) → k < length vs
-    → o ≡ get_or vs k o → Some next ≡ next_behind last (pair whole (view o))
-    → rising_behind last (pairs_of (drop k vs)) ≡ rising_behind first (pairs_of vs)
-    → rising_behind next (pairs_of (drop (k + 1) vs)) ≡ rising_behind first (pairs_of vs)
-rise_more first last next vs k o l is read same =
+pub rise_more : (last : Option (ℤ × ℤ)) (next : ℤ × ℤ) (vs : List Value) (k : ℕ) (o : Value)
+    → k < length vs → o ≡ get_or vs k o → Some next ≡ next_behind last (pair whole (view o))
+    → rising_behind last (pairs_of (drop k vs)) ≡ rising_behind None (pairs_of vs)
+    → rising_behind (Some next) (pairs_of (drop (k + 1) vs)) ≡ rising_behind None (pairs_of vs)
+rise_more last next vs k o l is read same =
     sym (more last next (pair whole (view o)) (pairs_of (drop (k + 1) vs)) (sym read))
     ∙ (ap (rising_behind last) (sym (pairs_more vs k o l is)) ∙ same)
 
 -- a value that is not
-pub rise_stops : (first last : ℤ × ℤ) (vs : List Value) (k : ℕ) (o : Value) → k < length vs
+pub rise_stops : (last : Option (ℤ × ℤ)) (vs : List Value) (k : ℕ) (o : Value) → k < length vs
     → o ≡ get_or vs k o → None ≡ next_behind last (pair whole (view o))
-    → rising_behind last (pairs_of (drop k vs)) ≡ rising_behind first (pairs_of vs)
-    → false ≡ rising_behind first (pairs_of vs)
-rise_stops first last vs k o l is read same =
+    → rising_behind last (pairs_of (drop k vs)) ≡ rising_behind None (pairs_of vs)
+    → false ≡ rising_behind None (pairs_of vs)
+rise_stops last vs k o l is read same =
     sym (stops last (pair whole (view o)) (pairs_of (drop (k + 1) vs)) (sym read))
     ∙ (ap (rising_behind last) (sym (pairs_more vs k o l is)) ∙ same)
 
 -- ---- all of an aim
 
 -- more than 1,000 names that rise
-pub aim_many : (vs : List Value) → rising (pairs_of vs) ≡ true → 1000 < length vs
+pub aim_many : (vs : List Value) → rising_behind None (pairs_of vs) ≡ true → 1000 < length vs
     → Ok false ≡ ok_or (option_map is_aim (ids_of (elements (items_view vs)))) fault.Field
 aim_many vs rise l = of_pairs (pairs_of vs) (length-form (pair whole) vs) rise
   where
     of_pairs : (x : Option (List (ℤ × ℤ)))
-        → ((ps : List (ℤ × ℤ)) → x ≡ Some ps → length ps ≡ length vs) → rising x ≡ true
+        → ((ps : List (ℤ × ℤ)) → x ≡ Some ps → length ps ≡ length vs) → rising_behind None x ≡ true
         → Ok false ≡ ok_or (option_map is_aim (option_and_then
         (λ ps. if rises pair_cmp ps then Some (map id_of ps) else None) x)) fault.Field
     of_pairs None n r = absurd cc
@@ -113,7 +114,7 @@ aim_many vs rise l = of_pairs (pairs_of vs) (length-form (pair whole) vs) rise
         rw (r, length-map, many) refl
 
 -- no more
-pub aim_few : (vs : List Value) → rising (pairs_of vs) ≡ true → length vs ≤ 1000
+pub aim_few : (vs : List Value) → rising_behind None (pairs_of vs) ≡ true → length vs ≤ 1000
     → option_map (list_all is_id) (each name (elements (items_view vs)))
     ≡ option_map is_aim (ids_of (elements (items_view vs)))
 aim_few vs rise l =
@@ -130,7 +131,7 @@ aim_few vs rise l =
         ]
 
     of_pairs : (x : Option (List (ℤ × ℤ)))
-        → ((ps : List (ℤ × ℤ)) → x ≡ Some ps → length ps ≡ length vs) → rising x ≡ true
+        → ((ps : List (ℤ × ℤ)) → x ≡ Some ps → length ps ≡ length vs) → rising_behind None x ≡ true
         → option_map (list_all is_id) (option_map (map id_of) x) ≡ option_map is_aim
         (option_and_then (λ ps. if rises pair_cmp ps then Some (map id_of ps) else None) x)
     of_pairs None n r = absurd cc

@@ -1,13 +1,10 @@
 -- What is written for an operation is read as that operation.
-use Rattle.std.proofs.Common.{◌≡◌, ℕ, List, [], ◌∷◌, length, refl, Bool, true, ◌&&◌, ◌∙◌, codes}
+use Rattle.std.proofs.Common.{◌≡◌, List, [], ◌∷◌, length, refl, true, ◌&&◌, ◌∙◌, codes}
 use Rattle.std.specs.Prelude.{Option, Some, option_map}
 use Rattle.std.proofs.lemmas.Bool.{and_parts}
-use Rattle.gf_plane.specs.declared.point.Point.{Point}
-use Rattle.gf_plane.specs.declared.colour.Rgb.{Rgb}
 use Rattle.gf_ops.specs.declared.op.Op.{Op}
 use Rattle.gf_ops.specs.declared.op.OpId.{OpId}
 use Rattle.gf_ops.specs.declared.op.ObjectId.{ObjectId}
-use Rattle.gf_ops.specs.declared.op.Clock.{Clock}
 use Rattle.gf_ops.specs.declared.change.Form.{Form}
 use Rattle.gf_ops.specs.declared.change.Form.TheVariants.{Rect, Polygon, Circle, Ellipse}
 use Rattle.gf_ops.specs.declared.change.Start.{Start}
@@ -18,8 +15,7 @@ use Rattle.gf_ops.specs.declared.change.Value.TheVariants as value
 use Rattle.gf_ops.specs.Limits.{is_id, is_clock, is_near, is_form, is_layer, is_colour, is_value}
 use Rattle.gf_ops.specs.Limits.{is_aim, is_change, IsInRange}
 use Rattle.serde_json.specs.Data.{Data}
-use Rattle.serde_json.specs.Find.{as_bool}
-use Rattle.gf_json.specs.LineForms.{◌&◌, clock, hex_colour, ids, name, natural, point, radius}
+use Rattle.gf_json.specs.LineForms.{◌&◌, clock, ids, name, radius}
 use Rattle.gf_json.specs.LineKeys.{op_keys}
 use Rattle.gf_json.specs.LineChanges.{at, change, named_value}
 use Rattle.gf_json.specs.OperationLines.{op_of}

@@ -18,17 +18,14 @@ abbrev pub ids_of : List Data → Option (List OpId)
 ids_of ds = option_and_then (λ ps. if rises pair_cmp ps then Some (map id_of ps) else None)
     (each (pair whole) ds)
 
--- the pairs are there and rise, each once
-abbrev pub rising : Option (List (ℤ × ℤ)) → Bool
-rising None = false
-rising (Some ps) = rises pair_cmp ps
+-- the pairs are there and rise, each once, behind the last pair before them, if there is one
+abbrev pub rising_behind : Option (ℤ × ℤ) → Option (List (ℤ × ℤ)) → Bool
+rising_behind last None = false
+rising_behind None (Some ps) = rises pair_cmp ps
+rising_behind (Some p) (Some ps) = rises pair_cmp (p ∷ ps)
 
--- the pair p and those that are there rise, each once
-abbrev pub rising_behind : ℤ × ℤ → Option (List (ℤ × ℤ)) → Bool
-rising_behind p None = false
-rising_behind p (Some qs) = rises pair_cmp (p ∷ qs)
-
--- the pair that is there, if it is behind p
-abbrev pub next_behind : ℤ × ℤ → Option (ℤ × ℤ) → Option (ℤ × ℤ)
-next_behind p None = None
-next_behind p (Some q) = if is_lt (pair_cmp p q) then Some q else None
+-- the pair that is there, if it is behind the last pair
+abbrev pub next_behind : Option (ℤ × ℤ) → Option (ℤ × ℤ) → Option (ℤ × ℤ)
+next_behind last None = None
+next_behind None (Some q) = Some q
+next_behind (Some p) (Some q) = if is_lt (pair_cmp p q) then Some q else None

@@ -1,4 +1,7 @@
 //! Operation lines, script lines, and lines that keep versions.
+//!
+//! Each part is read as a `Result<Option<A>, LineError>`. `Err(Field)` is a wrong form, and
+//! `Ok(None)` a broken limit. So a `?` tells the faults of form, and the limits are joined last.
 
 ghost use Rattle.std.specs.Prelude.{◌≡◌, ◌⊎◌, Err, IfOk, codes, option_map};
 ghost use Rattle.serde_json.specs.View.{view};

@@ -1,13 +1,13 @@
 //! The ids that an operation aims at: every element is checked before any memory is taken.
 
-ghost use Rattle.std.specs.Prelude.{◌≡◌, ◌⊎◌, All, Some, Err, IfOk, map, option_map};
+ghost use Rattle.std.specs.Prelude.{◌≡◌, ◌⊎◌, All, Some, None, Err, IfOk, map, option_map};
 ghost use Rattle.std.specs.Prelude.{option_and_then};
 ghost use Rattle.std.specs.Option.{ok_or};
 ghost use Rattle.std.specs.List.{list_all};
 ghost use Rattle.serde_json.specs.View.{view, items_view};
 ghost use Rattle.gf_ops.specs.Limits.{is_aim, is_id};
 ghost use Rattle.gf_json.specs.LineForms as form;
-ghost use Rattle.gf_json.specs.ReadLists.{ids_of, next_behind, rising, rising_behind};
+ghost use Rattle.gf_json.specs.ReadLists.{ids_of, next_behind, rising_behind};
 ghost use Rattle.gf_json.specs.Limited.{limited, IsKept};
 
 use crate::LineError;
@@ -58,27 +58,13 @@ fn is_aim(values: &[Value]) -> Result<bool, LineError>
 
 /// Whether each value is a pair of whole numbers, and the pairs rise, each once.
 fn are_rising(values: &[Value]) -> bool
-    ensures { result ≡ rising
+    ensures { result ≡ rising_behind None
         (form.each (form.pair form.whole) (form.elements (items_view values.now))) }
 {
-    let Some((first, others)) = values.split_first() else {
-        return true;
-    };
-    match numbers(Some(first)) {
-        Some(first) => rise_behind(first, others),
-        None => false,
-    }
-}
-
-/// Whether the pairs of the values rise behind a pair.
-fn rise_behind(first: (i64, i64), values: &[Value]) -> bool
-    ensures { result ≡ rising_behind first
-        (form.each (form.pair form.whole) (form.elements (items_view values.now))) }
-{
-    let mut last = first;
+    let mut last = None;
     for value in values {
         match next_behind(last, value) {
-            Some(next) => last = next,
+            Some(next) => last = Some(next),
             None => return false,
         }
     }
@@ -86,11 +72,14 @@ fn rise_behind(first: (i64, i64), values: &[Value]) -> bool
 }
 
 /// The two whole numbers of a value, if they come after the last pair.
-fn next_behind(last: (i64, i64), value: &Value) -> Option<(i64, i64)>
+fn next_behind(last: Option<(i64, i64)>, value: &Value) -> Option<(i64, i64)>
     ensures { result ≡ next_behind last (form.pair form.whole (view value.now)) }
 {
     let next = numbers(Some(value))?;
-    if last < next { Some(next) } else { None }
+    match last {
+        Some(last) => { if last < next { Some(next) } else { None } }
+        None => Some(next),
+    }
 }
 
 /// Whether each value, which has to be a name, keeps the limits.

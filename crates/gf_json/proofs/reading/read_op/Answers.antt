@@ -1,4 +1,3 @@
-use Rattle.std.proofs.Common.{refl}
 use Rattle.serde_json.specs.View.{view}
 use Rattle.gf_ops.specs.Limits.{is_in_range}
 use Rattle.gf_json.specs.OperationLines.{op_of}
@@ -14,5 +13,5 @@ returns-in-Ok-clause-denoted c =
 
 pub returns-in-Ok-clause-in_range : goal.returns-in-Ok-clause-in_range
 returns-in-Ok-clause-in_range c =
-    denoted-within is_in_range (read_operation (view c.in-Ok.value)) c.op_of.result _ c.op_of.ensures
-    c.ranged.ensures
+    denoted-within is_in_range (read_operation (view c.in-Ok.value)) c.op_of.result _
+    c.op_of.ensures c.ranged.ensures

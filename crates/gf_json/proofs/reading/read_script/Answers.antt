@@ -1,4 +1,3 @@
-use Rattle.std.proofs.Common.{refl}
 use Rattle.serde_json.specs.View.{view}
 use Rattle.gf_json.specs.ScriptLines.{is_script, script_of}
 use Rattle.gf_json.specs.ReadLines.{read_script_line}
