@@ -6,7 +6,7 @@ use serde_json::Value;
 
 /// What has to stand at a key.
 #[derive(Clone, Copy, PartialEq, Eq)]
-pub(crate) enum Form {
+pub(crate) enum ValueForm {
     /// A word that the keys of the line were chosen by.
     Word,
     Site,
@@ -24,35 +24,35 @@ pub(crate) enum Form {
 }
 
 /// What has to stand at a key of this line.
-pub(crate) fn form_of(line: &Value, key: Key) -> Form {
+pub(crate) fn form_of(line: &Value, key: Key) -> ValueForm {
     match key {
-        Key::Op | Key::Do | Key::Kind => Form::Word,
-        Key::Site => Form::Site,
-        Key::Id | Key::Object => Form::Id,
-        Key::Past => Form::Clock,
-        Key::Place => Form::Place,
-        Key::Size if word_at(line, "kind") == Some("circle") => Form::EqualSize,
-        Key::Size => Form::Size,
-        Key::Points => Form::Points,
-        Key::Colour => Form::Colour,
-        Key::Layer => Form::Layer,
-        Key::Shown => Form::Truth,
-        Key::Set => Form::Attribute,
+        Key::Op | Key::Do | Key::Kind => ValueForm::Word,
+        Key::Site => ValueForm::Site,
+        Key::Id | Key::Object => ValueForm::Id,
+        Key::Past => ValueForm::Clock,
+        Key::Place => ValueForm::Place,
+        Key::Size if word_at(line, "kind") == Some("circle") => ValueForm::EqualSize,
+        Key::Size => ValueForm::Size,
+        Key::Points => ValueForm::Points,
+        Key::Colour => ValueForm::Colour,
+        Key::Layer => ValueForm::Layer,
+        Key::Shown => ValueForm::Truth,
+        Key::Set => ValueForm::Attribute,
         Key::To => form_of_attribute(line),
-        Key::Aim | Key::With => Form::Aim,
+        Key::Aim | Key::With => ValueForm::Aim,
     }
 }
 
 /// What has to be the new value of the attribute that the line names.
-fn form_of_attribute(line: &Value) -> Form {
+fn form_of_attribute(line: &Value) -> ValueForm {
     match word_at(line, "set") {
-        Some("place") => Form::Place,
-        Some("points") => Form::Points,
-        Some("size") => Form::Size,
-        Some("colour") => Form::Colour,
-        Some("layer") => Form::Layer,
-        Some("shown") => Form::Truth,
-        _ => Form::Word,
+        Some("place") => ValueForm::Place,
+        Some("points") => ValueForm::Points,
+        Some("size") => ValueForm::Size,
+        Some("colour") => ValueForm::Colour,
+        Some("layer") => ValueForm::Layer,
+        Some("shown") => ValueForm::Truth,
+        _ => ValueForm::Word,
     }
 }
 
@@ -60,41 +60,41 @@ fn word_at<'v>(line: &'v Value, key: &str) -> Option<&'v str> {
     line.get(key)?.as_str()
 }
 
-impl Form {
+impl ValueForm {
     /// What a value of this form is.
     pub(crate) fn words(self) -> &'static str {
         match self {
-            Form::Word => "a word",
-            Form::Attribute => {
+            ValueForm::Word => "a word",
+            ValueForm::Attribute => {
                 "\"place\", \"points\", \"size\", \"colour\", \"layer\" or \"shown\""
             }
-            Form::Id | Form::Place | Form::Size => "a list of two whole numbers",
-            Form::Clock => "a list of eight whole numbers",
-            Form::EqualSize => "a list of two equal whole numbers",
-            Form::Points => "a list of pairs of whole numbers",
-            Form::Colour => "six hexadecimal digits",
-            Form::Site | Form::Layer => "a whole number",
-            Form::Truth => "true or false",
-            Form::Aim => "a list of pairs of whole numbers that rise, each once",
+            ValueForm::Id | ValueForm::Place | ValueForm::Size => "a list of two whole numbers",
+            ValueForm::Clock => "a list of eight whole numbers",
+            ValueForm::EqualSize => "a list of two equal whole numbers",
+            ValueForm::Points => "a list of pairs of whole numbers",
+            ValueForm::Colour => "six hexadecimal digits",
+            ValueForm::Site | ValueForm::Layer => "a whole number",
+            ValueForm::Truth => "true or false",
+            ValueForm::Aim => "a list of pairs of whole numbers that rise, each once",
         }
     }
 
     /// Whether the value has this form.
     pub(crate) fn suits(self, value: &Value) -> bool {
         match self {
-            Form::Word => true,
-            Form::Attribute => is_attribute(value),
-            Form::Id | Form::Place | Form::Size => pair(value).is_some(),
-            Form::Clock => is_clock(value),
-            Form::EqualSize => match pair(value) {
+            ValueForm::Word => true,
+            ValueForm::Attribute => is_attribute(value),
+            ValueForm::Id | ValueForm::Place | ValueForm::Size => pair(value).is_some(),
+            ValueForm::Clock => is_clock(value),
+            ValueForm::EqualSize => match pair(value) {
                 Some((width, height)) => width == height,
                 None => false,
             },
-            Form::Points => are_pairs(value),
-            Form::Colour => is_colour(value),
-            Form::Site | Form::Layer => value.as_i64().is_some(),
-            Form::Truth => value.as_bool().is_some(),
-            Form::Aim => are_rising(value),
+            ValueForm::Points => are_pairs(value),
+            ValueForm::Colour => is_colour(value),
+            ValueForm::Site | ValueForm::Layer => value.as_i64().is_some(),
+            ValueForm::Truth => value.as_bool().is_some(),
+            ValueForm::Aim => are_rising(value),
         }
     }
 }

@@ -1,6 +1,6 @@
 //! The limits of the values of operation lines and command lines.
 
-use crate::forms::{Form, elements, form_of, pair};
+use crate::forms::{ValueForm, elements, form_of, pair};
 use crate::keys::Key;
 use crate::reasons::{Beyond, Side};
 use serde_json::Value;
@@ -60,20 +60,23 @@ pub(crate) fn limit_fault(line: &Value, keys: &[Key]) -> Option<Beyond> {
 }
 
 /// The fault of the first number of a value that is not within its limits.
-fn value_fault(key: Key, form: Form, value: &Value) -> Option<Beyond> {
+fn value_fault(key: Key, form: ValueForm, value: &Value) -> Option<Beyond> {
     match form {
-        Form::Id => id_fault(key, value),
-        Form::Clock => first_fault(within("past", "", 0, 10_000), elements(value)?),
-        Form::Place => first_fault(within("place", "", -1_000_000, 1_000_000), elements(value)?),
-        Form::Size | Form::EqualSize => first_fault(
+        ValueForm::Id => id_fault(key, value),
+        ValueForm::Clock => first_fault(within("past", "", 0, 10_000), elements(value)?),
+        ValueForm::Place => first_fault(
+            within("place", "", -1_000_000, 1_000_000),
+            elements(value)?,
+        ),
+        ValueForm::Size | ValueForm::EqualSize => first_fault(
             within("size", "", 1, 1_000_000),
             elements(value)?,
         ),
-        Form::Points => points_fault(elements(value)?),
-        Form::Site => within("site", "", 1, 8).fault(value.as_i64()?),
-        Form::Layer => within("layer", "", 0, 9_999).fault(value.as_i64()?),
-        Form::Aim => aim_fault(key, elements(value)?),
-        Form::Word | Form::Attribute | Form::Colour | Form::Truth => None,
+        ValueForm::Points => points_fault(elements(value)?),
+        ValueForm::Site => within("site", "", 1, 8).fault(value.as_i64()?),
+        ValueForm::Layer => within("layer", "", 0, 9_999).fault(value.as_i64()?),
+        ValueForm::Aim => aim_fault(key, elements(value)?),
+        ValueForm::Word | ValueForm::Attribute | ValueForm::Colour | ValueForm::Truth => None,
     }
 }
 
