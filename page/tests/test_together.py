@@ -43,6 +43,19 @@ class Together(PageTest):
             page.wait_text('.versions b', [])
         self.assertNotIn('object', self.server.figgroup('status').replace('object 1.1 has 2 versions, 1 shown', ''))
 
+    def test_undo_of_a_settlement(self):
+        """Both see both versions again, each with the name of its designer, and one of them after a redo."""
+        ann, ben = self.two_versions()
+        ann.button_of("Ben's place")
+        for page in (ann, ben):
+            page.wait_text('.versions b', [])
+            page.wait_for('saved')
+        for keys, named in [((Keys.CONTROL, 'z'), ["Ann's place", "Ben's place"]), ((Keys.CONTROL, Keys.SHIFT, 'z'), [])]:
+            ann.press(*keys)
+            for page in (ann, ben):
+                wait(lambda: sorted(page.text('.versions b')) == named, what=lambda: page.text('.versions b'))
+                page.wait_for('saved')
+
     def test_both_keep_the_other_ones(self):
         """Ann keeps Ben's, Ben keeps Ann's, at once: both are seen again."""
         ann, ben = self.two_versions()
@@ -76,6 +89,16 @@ class Together(PageTest):
         self.assertEqual(1, len(ben.text('.held')))
         ann.press(Keys.ESCAPE)
         wait(lambda: ben.text('.tag text') == [])
+
+    def test_who_holds_a_version(self):
+        """In a conflict a designer's name stands at that designer's own version."""
+        pages = self.two_versions()
+        for page, name, badge in zip(pages, ('Ben', 'Ann'), 'BA'):
+            wait(lambda: page.text('.tag text') == [name], what=lambda: page.text('.tag text'))
+            beside = page.js("""const middle = node => node.getBoundingClientRect();
+                const tag = middle(document.querySelector('.tag')), far = ({x, y}) => Math.hypot(x - tag.x, y - tag.y);
+                return [...document.querySelectorAll('.badge')].sort((a, b) => far(middle(a)) - far(middle(b)))[0].textContent""")
+            self.assertEqual(badge, beside)
 
     def hidden(self):
         ann, ben = self.two()
@@ -111,6 +134,34 @@ class Together(PageTest):
         ben.driver.switch_to.window(ben.window)
         ben.driver.get('data:,')
         wait(lambda: ann.text('#designers li') == ['Ann(you)', 'Ben(away)'], what=lambda: ann.text('#designers li'))
+
+
+class Three(PageTest):
+    sites = 3
+
+    def test_undo_of_one_deletion_of_three(self):
+        """Of a box at three places one is deleted, and comes back, at once and behind what the server tells of it."""
+        pages = [self.page(site) for site in (1, 2, 3)]
+        ann = pages[0]
+        ann.draw('r', (0, 0), (1000, 1000))
+        for page in pages:
+            page.wait_figures([f'rect {FIRST} 0 0 1000 1000'])
+            page.wait_for('saved')
+        for place, page in enumerate(pages, 1):
+            page.drag((500, 500), (500, 500 + 1200 * place), hold=True)
+        for page in pages:
+            page.release()
+        wait(lambda: len(ann.text('.versions b')) == 3, what=lambda: ann.text('.versions b'))
+        ann.wait_for('saved')
+        for waits in (False, True):
+            ann.press(Keys.DELETE)
+            if waits:
+                wait(lambda: len(ann.text('.versions b')) == 2, what=lambda: ann.text('.versions b'))
+                ann.wait_for('saved')
+            ann.press(Keys.CONTROL, 'z')
+            for page in pages:
+                wait(lambda: len(page.text('.versions b')) == 3, what=lambda: page.text('.versions b'))
+                page.wait_for('saved')
 
 
 class OneSite(PageTest):

@@ -54,6 +54,16 @@ function chain(kind, points) {
     return [points[0], points[1], points[4] - points[0], points[5] - points[1]];
 }
 
+// The figures as they are sent behind those that were answered last. Where a version comes back beside others of its
+// object, as by an undo of a settlement, these name its creation too: to an object whose versions all stand by their
+// names a take gives nothing but layers.
+export function behind(answered, figures) {
+    const there = new Set(answered.map(({key}) => key));
+    const back = new Set(figures.filter(({key, object}) => object && !there.has(key)).map(({object}) => object));
+    return figures.map(figure => back.has(figure.object) && there.has(figure.key)
+        ? {...figure, named: [...figure.named, `# figgroup with ${figure.object}`]} : figure);
+}
+
 // Writes figures as a text, and tells the line on which each begins, counted from #FIG. A figure that was not put
 // elsewhere keeps its depth; any other one gets that of the next below it, and stands behind it in the text.
 export function write(figures, knows) {

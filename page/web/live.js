@@ -9,7 +9,7 @@
 //
 // One page of a site draws, the one that was opened last or took over; the others watch. What waited on a page that does
 // not draw any more, or on a drawing that its site went on from, is never made without a word of the designer: it is asked.
-import {created, known, read, write} from './fig.js';
+import {behind, created, known, read, write} from './fig.js';
 import {difference, redo} from './drawing.js';
 import {sameLook} from './figure.js';
 
@@ -231,7 +231,11 @@ export class Live extends EventTarget {
         const {request, after, figures, show, to} = this.#sent;
         clearTimeout(this.#silent);
         this.#silent = setTimeout(() => this.#hangUp(), SILENT);
-        this.#say(show ? {show, to, request, after} : {take: write(figures, this.#base.knows).text, request, after});
+        this.#say(show ? {show, to, request, after} : {take: this.#written(figures).text, request, after});
+    }
+
+    #written(figures) {
+        return write(behind(this.#acked, figures), this.#base.knows);
     }
 
     // Shows the newest text, unless a gesture is under way, or it is older than what this page knows.
@@ -297,7 +301,7 @@ export class Live extends EventTarget {
         const {figures} = this.#sent;
         this.#sent = null;
         if (!figures) return;
-        const {begins} = write(figures, this.#base.knows);
+        const {begins} = this.#written(figures);
         for (const line of words.split('\n')) {
             const [, number, text] = line.match(/^drawing line (\d+): (?:figure object \d+: )?(.*)/) ?? [];
             const begun = [...begins].filter(([begin]) => begin <= number);

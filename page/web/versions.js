@@ -3,11 +3,12 @@ import {apart} from './fig.js';
 
 const ATTRIBUTES = ['place', 'points', 'size', 'colour', 'layer'];
 
-// The figures of objects that have several versions, each with the designer of what tells it apart.
+// The figures of objects that have several versions, each with the designer of what tells it apart. An undo of a
+// settlement brings back what the server has told of one version alone: that waits until it tells of both.
 export function versions(figures, live) {
-    const count = new Map();
-    for (const {object} of figures) if (object) count.set(object, (count.get(object) ?? 0) + 1);
-    return figures.filter(({object}) => count.get(object) > 1).map(figure => {
+    const told = figures.filter(figure => apart(figure).length), count = new Map();
+    for (const {object} of told) count.set(object, (count.get(object) ?? 0) + 1);
+    return told.filter(({object}) => count.get(object) > 1).map(figure => {
         const sites = apart(figure).map(operation => operation.split('.')[0]);
         return {figure, designer: live.designer(sites.find(site => site != live.site) ?? sites[0])};
     });
