@@ -139,6 +139,28 @@ class Gestures(PageTest):
         page.button('[title="#d64545"]')
         self.assertEqual(['colour'] * 3, [operation['set'] for operation in self.made(8)[5:]])
 
+    def test_a_colour_for_what_comes(self):
+        """Who chooses a tool, and then a colour, does not recolour what was drawn before."""
+        page = self.page()
+        page.draw('r', (0, 0), (1000, 1000))
+        page.wait_text('#painted', ['Colour of what is selected'])
+        page.button('[data-tool=box]')
+        page.wait_text('#painted', ['Colour of what is drawn next'])
+        page.button('[title="#d64545"]')
+        wait(lambda: page.js('return document.querySelector(".swatch.on").title') == '#d64545')
+        page.drag((2000, 0), (3000, 1000))
+        page.wait_figures([f'rect {FIRST} 0 0 1000 1000', 'rect #d64545 2000 0 1000 1000'])
+        self.made(2)
+
+    def test_caps_lock(self):
+        """A letter that Caps Lock made a capital is the same key."""
+        page = self.page()
+        page.draw('r', (0, 0), (1000, 1000))
+        for key, expected in [('z', 0), ('y', 1), ('z', 0)]:
+            page.js("""document.querySelector('#canvas').dispatchEvent(
+                new KeyboardEvent('keydown', {key: arguments[0], ctrlKey: true, bubbles: true}))""", key.upper())
+            wait(lambda: len(page.figures) == expected, what=lambda: page.figures)
+
     def test_zoom_and_pan(self):
         page = self.page()
         page.draw('r', (0, 0), (1000, 1000))
@@ -190,6 +212,20 @@ class Gestures(PageTest):
         self.fill(field, '0,0 900,0 900,900 0,900')
         page.wait_figures([f'rect {FIRST} 0 0 2500 1000', f'polygon {FIRST} 0 0 900 0 900 900 0 900'])
         self.assertEqual(('points',), self.last(4, 'set'))
+
+    def test_one_measure_changes_that_alone(self):
+        """A circle keeps its size when it gets a place, the fields tell what came, and what is no number makes nothing."""
+        page = self.page()
+        page.draw('c', (0, 0), (1000, 1000))
+        self.made(1)
+        page.wait_for('saved')
+        fields = page.here().find_elements('css selector', '#measures [data-side]')
+        for side, typed, told in [(2, '2000', '0 -500 2000 2000'), (0, '300', '300 -500 2000 2000'),
+                                  (3, '', '300 -500 2000 2000'), (1, '-100', '300 -100 2000 2000'), (2, '500', '300 650 500 500')]:
+            self.fill(fields[side], typed)
+            wait(lambda: ' '.join(field.get_property('value') for field in fields) == told,
+                 what=lambda: (typed, [field.get_property('value') for field in fields]))
+        self.made(7)  # of a circle that grows or shrinks its place changes, too
 
     def test_refused_and_mended(self):
         """65 corners are one too many: told at the figure, and taken as soon as two clicks took one out."""

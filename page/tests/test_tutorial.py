@@ -52,13 +52,12 @@ class Tutorial(PageTest):
         """Sky, meadow, wall, roof, and a fir before the door."""
         for name, corners in [('sky', [(0, 0), (6000, 3000)]), ('meadow', [(0, 3000), (6000, 4200)]),
                               ('wall', [(2000, 1800), (4000, 3400)])]:
-            page.press(Keys.ESCAPE)
+            page.button('[data-tool=box]')
             page.button(f'[title="{COLOURS[name]}"]')
-            page.draw('r', *corners)
+            page.drag(*corners)
         for name, corners in [('roof', [(1800, 1800), (3000, 800), (4200, 1800)]), ('fir', [(3000, 1900), (3500, 3700), (2500, 3700)])]:
-            page.press(Keys.ESCAPE)
+            page.button('[data-tool=polygon]')
             page.button(f'[title="{COLOURS[name]}"]')
-            page.press('b')
             for corner in corners + corners[:1]:
                 page.click(*corner)
         self.made(5)

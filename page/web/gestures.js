@@ -289,8 +289,10 @@ export class Gestures {
         this.use('select');
     }
 
+    // A tool that draws begins with nothing selected, so that a colour is chosen for what comes, and not for what is there.
     use(tool) {
         this.#corners = this.canvas.sketch = null;
+        if (tool !== 'select') this.drawing.select([]);
         this.canvas.use(tool);
     }
 

@@ -3,8 +3,12 @@ import {attributes, bounds, element, fitted, inWords, join, meet, svg} from './f
 import {conflicts, hidden, whose} from './versions.js';
 import {HINTS, TOOLS, WORDS} from './words.js';
 
-const COLOURS = ['#1b1b1f', '#5f6672', '#b8bec9', '#ffffff', '#d64545', '#ef8354', '#f4c95d', '#fff3c4',
-    '#2e7d32', '#8bc34a', '#1b998b', '#bfe3d0', '#2d4a8a', '#4f7cac', '#a9d0f5', '#7d5ba6'];
+const COLOURS = new Map(Object.entries({  // with what they are called for who hears the page
+    '#1b1b1f': 'black', '#5f6672': 'grey', '#b8bec9': 'light grey', '#ffffff': 'white', '#d64545': 'red',
+    '#ef8354': 'orange', '#f4c95d': 'yellow', '#fff3c4': 'cream', '#2e7d32': 'green', '#8bc34a': 'light green',
+    '#1b998b': 'teal', '#bfe3d0': 'mint', '#2d4a8a': 'dark blue', '#4f7cac': 'blue', '#a9d0f5': 'light blue',
+    '#7d5ba6': 'violet',
+}));
 const MOST_CARDS = 12;          // objects in conflict that are shown at once
 const MOST_OWN = 16;            // colours of the drawing that are offered
 const LIMIT = 10000, FEW = 1000;  // operations of a site; from so few left on it is told
@@ -38,17 +42,23 @@ function put(selector, key, make) {
 export class Panels {
     #due = null;
     #spoken = '';
+    #typed = null;  // the field in which somebody types
 
     constructor(drawing, live, canvas, gestures) {
         Object.assign(this, {drawing, live, canvas, gestures});
         for (const target of [drawing, live, canvas])
             for (const event of ['shown', 'told', 'looked']) target.addEventListener(event, () => this.#later());
         live.addEventListener('news', ({detail}) => this.speak(`others changed ${detail} ${detail > 1 ? 'objects' : 'object'}`));
-        find('#swatches').append(...COLOURS.map(colour => this.#swatch(colour)));
+        find('#swatches').append(...[...COLOURS.keys()].map(colour => this.#swatch(colour)));
         find('#own').onchange = event => this.paint(event.target.value);
         find('#corners').onchange = () => this.#bend();
         find('#more').onclick = () => document.body.classList.toggle('open');
-        for (const input of all('#measures input[data-side]')) input.onchange = () => this.#measure();
+        for (const input of all('#measures input[data-side]')) input.onchange = () => this.#measure(input);
+        find('#measures').addEventListener('input', ({target}) => this.#typed = target);
+        for (const event of ['change', 'focusout']) find('#measures').addEventListener(event, () => {
+            this.#typed = null;
+            this.#later();
+        });
         this.#help();
     }
 
@@ -81,6 +91,7 @@ export class Panels {
 
     #swatch(colour) {
         const made = html('button', {className: 'swatch', title: colour, onclick: () => this.paint(colour)});
+        made.setAttribute('aria-label', COLOURS.get(colour) ?? colour);
         made.style.background = colour;
         return made;
     }
@@ -93,15 +104,17 @@ export class Panels {
 
     #colours() {
         const used = [...new Set(this.drawing.figures.map(({colour}) => colour))]
-            .filter(colour => !COLOURS.includes(colour)).slice(0, MOST_OWN);
+            .filter(colour => !COLOURS.has(colour)).slice(0, MOST_OWN);
         put('#used', used.join(), () => used.map(colour => this.#swatch(colour)));
-        const chosen = new Set(this.drawing.chosen.map(figure => figure.colour));
+        const {chosen} = this.drawing, next = this.gestures.colour;
+        const on = new Set(chosen.length ? chosen.map(figure => figure.colour) : [next]);
         for (const swatch of all('.swatch')) {
-            swatch.classList.toggle('on', chosen.has(swatch.title));
-            swatch.setAttribute('aria-pressed', chosen.has(swatch.title));
+            swatch.classList.toggle('on', on.has(swatch.title));
+            swatch.setAttribute('aria-pressed', on.has(swatch.title));
         }
-        find('#colour i').style.background = this.gestures.colour;
-        if (document.activeElement !== find('#own')) find('#own').value = this.gestures.colour;
+        find('#painted').textContent = `Colour of what is ${chosen.length ? 'selected' : 'drawn next'}`;
+        find('#colour i').style.background = next;
+        if (document.activeElement !== find('#own')) find('#own').value = on.size > 1 ? next : [...on][0];
     }
 
     // ---- The state, and what is asked
@@ -112,7 +125,7 @@ export class Panels {
         const said = store.full ? 'No room to keep it here: leave this page open'
             : state === 'offline' && reason ? `No connection: ${reason}` : STATES[state];
         if (find('#state').textContent !== said) find('#state').textContent = said;
-        find('#state').title = words;
+        find('#state').title = words || said;
         put('#left', left > FEW ? '' : String(left), () => left > FEW ? [] : [
             html('p', {}, left > 0 ? `${left} of your 10,000 operations are left.` : USED_UP),
             html('p', {}, html('code', {}, 'draw anew FOLDER'), ' begins a new drawing from this picture.'),
@@ -227,20 +240,27 @@ export class Panels {
     }
 
     #measures() {
-        const {chosen} = this.drawing, panel = find('#measures');
-        panel.hidden = !chosen.length;
-        if (!chosen.length || panel.contains(document.activeElement)) return;
+        const {chosen} = this.drawing;
+        find('#measures').hidden = !chosen.length;
+        if (!chosen.length) return this.#typed = null;
         const [left, top, right, bottom] = join(chosen.map(bounds));
-        [left, top, right - left, bottom - top].forEach((value, i) => find(`[data-side="${i}"]`).value = value);
+        [left, top, right - left, bottom - top].forEach((value, i) => this.#fill(`[data-side="${i}"]`, value));
         const polygon = chosen.length === 1 && chosen[0].kind === 'polygon';
         find('#corners').parentNode.hidden = !polygon;
-        if (polygon) find('#corners').value = chosen[0].shape.join(' ').replace(/(\S+) (\S+)/g, '$1,$2');
+        if (polygon) this.#fill('#corners', chosen[0].shape.join(' ').replace(/(\S+) (\S+)/g, '$1,$2'));
     }
 
-    #measure() {
-        const side = i => Math.round(Number(find(`[data-side="${i}"]`).value)), [x, y, width, height] = [0, 1, 2, 3].map(side);
-        const from = join(this.drawing.chosen.map(bounds)), to = [x, y, x + Math.max(1, width), y + Math.max(1, height)];
-        if (String(from) !== String(to)) this.drawing.changeChosen(figure => fitted(figure, from, to));
+    #fill(selector, value) {
+        if (find(selector) !== this.#typed) find(selector).value = value;
+    }
+
+    // One measure becomes what was typed, and the others stay. What is no number makes nothing.
+    #measure({dataset, valueAsNumber}) {
+        const side = Number(dataset.side), value = Math.round(valueAsNumber), from = join(this.drawing.chosen.map(bounds));
+        const to = [...from];
+        if (side < 2) [to[side], to[side + 2]] = [value, value + from[side + 2] - from[side]];
+        else to[side] = from[side - 2] + Math.max(1, value);
+        if (Number.isFinite(value) && String(from) !== String(to)) this.drawing.changeChosen(figure => fitted(figure, from, to));
     }
 
     #bend() {
