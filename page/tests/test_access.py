@@ -123,6 +123,7 @@ class Heard(PageTest):
         wait(lambda: page.js('return [...document.querySelectorAll("#objects li")].map(node => node.getAttribute("aria-label"))')
              == [f'box 1.1 at 0 0, 2000 wide, 1000 high, {FIRST}'])
         self.assertEqual(['true'], page.js('return [...document.querySelectorAll("#objects li")].map(node => node.ariaSelected)'))
+        self.assertIn('light green', page.js('return [...document.querySelectorAll(".swatch")].map(node => node.ariaLabel)'))
         nameless = page.js('''return [...document.querySelectorAll('button, input, [role], ul, section[aria-label]')].filter(node =>
             node.checkVisibility() && !(node.ariaLabel || node.title || node.textContent.trim() || node.labels?.length
             || node.getAttribute('aria-labelledby') || node.getAttribute('role') === 'status')).map(node => node.outerHTML)''')
@@ -171,6 +172,24 @@ class Narrow(PageTest):
         shot(page, 'narrow')
         page.button('#more')
         wait(lambda: not page.js('return document.querySelector("#objects").checkVisibility({visibilityProperty: true})'))
+
+    def test_all_buttons_are_seen(self):
+        """In a window of each width all that stands above is within it, also while that says that there is no connection."""
+        page = self.page()
+        self.addCleanup(lambda: self.driver.execute_cdp_cmd('Emulation.clearDeviceMetricsOverride', {}))
+        self.server.kill()
+        page.wait_for('offline')
+        for width in (320, 390, 820, 1000):
+            page.here().execute_cdp_cmd('Emulation.setDeviceMetricsOverride',
+                                        {'width': width, 'height': 700, 'deviceScaleFactor': 1, 'mobile': False})
+            wait(lambda: page.js('return innerWidth') == width)
+            shot(page, f'offline-{width}')
+            beyond = page.js("""return [...document.querySelectorAll('header button, #state')].filter(node => {
+                const {left, right, width, height} = node.getBoundingClientRect();
+                return node.checkVisibility() && (left < 0 || right > innerWidth || width < 20 || height < 20);
+            }).map(node => node.outerHTML)""")
+            self.assertEqual([], beyond)
+            self.assertGreater(page.js('return parseFloat(getComputedStyle(document.querySelector("#state")).fontSize)'), 9)
 
 
 if __name__ == '__main__':
