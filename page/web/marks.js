@@ -10,7 +10,8 @@ const sizes = () => coarse.matches ? {edge: 16, corner: 10, between: 7} : {edge:
 
 export function marks(canvas) {
     const {drawing, live, figures, tool} = canvas, {unit} = canvas.view, all = [];
-    for (const {figure, designer} of versions(figures, live)) {
+    const conflicting = versions(figures, live);
+    for (const {figure, designer} of conflicting) {
         all.push(outline(figure, 'halo'), outline(figure, 'version', designer.colour), badge(figure, designer, unit));
     }
     for (const {site, holds} of live.designers) {
@@ -18,7 +19,8 @@ export function marks(canvas) {
         const held = new Set(holds), {name, colour} = live.designer(site);
         const ones = figures.filter(({object}) => held.has(object));
         all.push(...ones.map(figure => outline(figure, 'held', colour)));
-        if (ones.length) all.push(tag(ones[0], name, colour, unit));
+        const theirs = conflicting.find(({figure, designer}) => designer.site === site && held.has(figure.object));
+        if (ones.length) all.push(tag(theirs?.figure ?? ones[0], name, colour, unit));
     }
     for (const figure of figures) if (live.faults.has(figure.key)) all.push(outline(figure, 'fault'));
     all.push(...waiting(drawing, live));
