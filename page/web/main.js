@@ -31,9 +31,10 @@ document.addEventListener('click', ({target}) => {
     if (button?.dataset.tool) gestures.use(button.dataset.tool);
 });
 
-// The name of a key, as Ctrl+z, Shift+F6 or }.
+// The name of a key, as Ctrl+z, Shift+F6 or }. Whether a letter is a capital Shift says alone, and not Caps Lock.
 function named({key, ctrlKey, metaKey, shiftKey}) {
-    return (ctrlKey || metaKey ? 'Ctrl+' : '') + (shiftKey && key.length > 1 && !ARROWS[key] ? 'Shift+' : '') + key;
+    const sign = key.length > 1 ? key : shiftKey ? key.toUpperCase() : key.toLowerCase();
+    return (ctrlKey || metaKey ? 'Ctrl+' : '') + (shiftKey && key.length > 1 && !ARROWS[key] ? 'Shift+' : '') + sign;
 }
 
 document.addEventListener('keydown', event => {
