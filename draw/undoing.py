@@ -35,13 +35,15 @@ def word_restore(*words):
 
 
 def restore(work, object, all):
-    """The commands that show what those saw who hid the object last."""
+    """The commands that show what those saw who hid the object last. Who hid it where nothing was seen counts for none."""
     of_shown = [each for each in all.values() if each.object == object and each.attribute == 'shown']
-    last = [each for each in of_shown
-            if each.value('shown') is False and not any(other.knows(each) for other in of_shown)]
-    if not last:
-        return [change(work.site, object, 'shown', True)]
-    return show_again(work.site, work.lines, object, [operations.within(all, each.past) for each in last])
+    while last := [each for each in of_shown
+                   if each.value('shown') is False and not any(other.knows(each) for other in of_shown)]:
+        befores = [operations.within(all, each.past) for each in last]
+        if commands := show_again(work.site, work.lines, object, befores):
+            return commands
+        of_shown = [each for each in of_shown if each not in last]
+    return [change(work.site, object, 'shown', True)]
 
 
 def show_again(site, lines, object, befores):

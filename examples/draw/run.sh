@@ -310,6 +310,11 @@ say "draw status"
 say "draw list 1.6 | cut -d ' ' -f 1-20"
 
 heading "undo and redo, word by word"
+# Who deletes it again agrees, and takes nothing from what is then shown again.
+say "draw delete 1.2"
+say "draw delete 1.2"
+say "draw restore 1.2"
+say "draw delete 1.2"
 begin undo
 draw site 1 > /dev/null
 say "draw redo"
