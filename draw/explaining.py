@@ -10,7 +10,8 @@ from telling import lines_of, quoted
 OF_COMMANDS = {
     'NoObject': 'there is no object {object}: draw list names what is shown',
     'NoVersion': 'no shown version of {object} holds these operations: draw list {object} tells them',
-    'WrongKind': '{object} is of a kind that has no such value',
+    'WrongKind': '{object} gets no such {set}: a polygon alone has points, and the others a size, of a circle its radius '
+                 'twice',
 }
 
 
@@ -31,8 +32,8 @@ def why(said, lines, behind=b'', site=None):
 
 def of_command(given, number, fault, site):
     if fault in OF_COMMANDS:
-        object = json.loads(given.split(b'\n')[number - 1])['object']
-        return ['draw: ' + OF_COMMANDS[fault].format(object='.'.join(map(str, object)))]
+        command = json.loads(given.split(b'\n')[number - 1])
+        return ['draw: ' + OF_COMMANDS[fault].format_map({**command, 'object': '.'.join(map(str, command['object']))})]
     return [re.sub(r'^line \d+: [A-Za-z]*: (command \d+: )*', 'draw: ', line)
             for line in lines_of(figgroup('check', '--site', site, read=given)[1])]
 

@@ -1,10 +1,14 @@
 """The figures of objects, in the text of `fig --named`, are moved or copied."""
+import re
+
 import folder
 import ids
 import names
 import own
 from listing import figures, names_figure
-from telling import fail
+from telling import Failure, fail
+
+BEYOND = re.compile(r'figgroup: drawing line \d+: (?:Place|Range): (.*) (?:lies|has a point) beyond \d+: move it')
 
 
 def word_move(dx, dy, *words):
@@ -24,7 +28,16 @@ def shift(dx, dy, words, copies):
         for object in wanted:
             if object not in shown:
                 fail(f'there is no shown object {ids.name(object)}: draw list names what is shown')
-        work.apply('take', shifted(text.decode(), set(wanted), dx, dy, copies).encode())
+        try:
+            work.apply('take', shifted(text.decode(), set(wanted), dx, dy, copies).encode())
+        except Failure as failure:
+            raise Failure(*(in_words(line, dx, dy) for line in failure.lines))
+
+
+def in_words(line, dx, dy):
+    """What is told of a figure that would lie too far, in the words of who moves it."""
+    beyond = BEYOND.fullmatch(line)
+    return f'draw: {dx} {dy} is too far: {beyond[1]} would lie beyond 1000000' if beyond else line
 
 
 def shifted(text, wanted, dx, dy, copies):

@@ -589,6 +589,8 @@ say "FIG_EDITOR=true draw"
 sed -i '$d' site-2.jsonl
 rm site-1.jsonl
 say "draw delete 1.1"
+say "draw set 1.6 points 0,0 9,0 0,x"
+say "draw set 1.5 shown no"
 echo 12 > site
 say "draw delete 1.1"
 
@@ -598,6 +600,8 @@ say "draw anew"
 say "draw anew new"
 say "ls new"
 say "cat site-*.jsonl | figgroup fig > today.fig"
+say "draw copy 0 -9999999 1.1-1.2"
+say "draw move 1.5 0 1.1"
 say "figgroup fig < new/site-1.jsonl | cmp - today.fig"
 say "draw anew new"
 say "cd new && draw site 1"
