@@ -12,8 +12,8 @@ def put(path, content):
 def prepare(path, content):
     try:
         sitefile.prepare(path, content)
-    except OSError:
-        fail(f"{quoted(path)} can't be written, and is as it was: is the disk full?")
+    except OSError as error:
+        fail(f"{quoted(path)} can't be written, and is as it was: {error.strerror}")
 
 
 def place(path):

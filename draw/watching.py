@@ -3,6 +3,7 @@ import time
 
 import own
 import pulling
+import sharing
 from folder import site
 from telling import Failure, fail, write
 
@@ -10,6 +11,8 @@ from telling import Failure, fail, write
 def word_watch(option='--every', seconds='60'):
     if site() is None:
         fail('whose copy is this? draw site N says it')
+    if not sharing.in_git():
+        fail('this folder is in no work tree of git')
     told = []
     while True:
         wait_for_words()

@@ -141,7 +141,7 @@ full_disk() {
                 ! cmp -s "$folder/before" site-2.jsonl || failed "$word made nothing on a full disk and did not say it"
             else
                 cmp -s "$folder/before" site-2.jsonl || failed "$word was refused on a full disk and made something"
-                grep -q 'is the disk full\|the editor ended' "$folder/said" ||
+                grep -q 'is the disk full\|No space left\|the editor ended' "$folder/said" ||
                     failed "of a full disk: $(cat "$folder/said")"
             fi
             rm filled

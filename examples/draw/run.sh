@@ -603,6 +603,8 @@ say "cat site-*.jsonl | figgroup fig > today.fig"
 say "draw copy 0 -9999999 1.1-1.2"
 say "draw move 1.5 0 1.1"
 say "figgroup fig < new/site-1.jsonl | cmp - today.fig"
+say "draw picture nowhere/house.png 2>&1 | tail -n 1"
+say "draw watch"
 say "draw anew new"
 say "cd new && draw site 1"
 
