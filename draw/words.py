@@ -6,17 +6,23 @@ import sys
 import folder
 import ids
 import names
+from calls import run_here
 from telling import Failure, fail, say, tell
 
 MODULES = {
     '': 'window', 'plain': 'window', 'site': 'beginning', 'bring': 'beginning', 'list': 'listing', 'name': 'naming',
-    'move': 'shifting', 'copy': 'shifting', 'set': 'setting', 'delete': 'undoing', 'restore': 'undoing',
+    'create': 'creating', 'move': 'shifting', 'copy': 'shifting', 'set': 'setting', 'delete': 'undoing',
+    'restore': 'undoing',
     'keep': 'settling', 'undo': 'undoing', 'redo': 'undoing', 'log': 'log', 'status': 'pulling',
     'picture': 'pictures', 'pull': 'pulling', 'push': 'pulling', 'watch': 'watching', 'page': 'serving',
     'anew': 'beginning',
 }
 HELP = ('help', '--help', '-h')
 WITHOUT_LINES = ('site', 'page', 'bring')  # words for a folder without any operation lines
+MEANINGS = {
+    'KIND': 'KIND is box, circle, ellipse or polygon', 'DX': 'DX and DY are whole numbers of up to 7 digits',
+    'OBJECT': 'OBJECT is 1.6, 1.6-1.13 or a name', 'OPERATION': 'OPERATION is 1.6',
+}
 LEAST, MOST = 10, 3600  # seconds between two pulls of a watch
 
 
@@ -29,19 +35,31 @@ def main(document, typed):
     os.environ['PATH'] = os.environ.get('PATH', os.defpath) + ':' + beside
     help = [line.removeprefix('  ') for line in document.split('\n') if line.startswith('  draw ')]
     word, arguments = (typed or [''])[0], typed[1:]
+    if word in HELP and arguments:
+        word, arguments = arguments[0], ['--help']
     if word in HELP:
         print('\n'.join(help))
         return 0
+    if word == '--version':
+        return run_here('figgroup', '--version')
     if word not in MODULES or typed == ['']:
         say(f'draw: there is no word {word}: draw help has all')
         return 2
     forms = [line for line in help if line.split(' ', 2)[1] == word]
+    if any(argument in HELP[1:] for argument in arguments):
+        print('\n'.join(forms))
+        return 0
     if not any(fits(form, word, arguments) for form in forms):
-        say('draw: it is typed so, where OBJECT is 1.6, 1.6-1.13 or a name, and OPERATION 1.6:')
-        for form in forms:
-            print(form, file=sys.stderr)
+        for line in [usage_of(forms), *forms]:
+            say(line)
         return 2
     return done(word, arguments)
+
+
+def usage_of(forms):
+    """What the words of the forms mean."""
+    means = [meaning for word, meaning in MEANINGS.items() if any(word in form for form in forms)]
+    return f'draw: it is typed so{", where " if means else ""}{", and ".join(means)}:'
 
 
 def done(word, arguments):
@@ -120,6 +138,7 @@ KINDS = {
     'OPERATION': lambda word: ids.read_id(word) is not None,
     'NAME': names.is_name,
     'DESIGNER': lambda word: word[:1] not in ('', '-'),
+    'KIND': lambda word: word in ('box', 'circle', 'ellipse', 'polygon'),
     'ATTRIBUTE': lambda word: word in ('place', 'points', 'size', 'colour', 'layer', 'shown'),
     'VALUE': bool,
     'FILE': lambda word: word.endswith(('.png', '.pdf', '.svg')),

@@ -27,7 +27,13 @@ offers 'status session serve' figgroup s
 offers '--width --workers' figgroup paint --w
 offers '' figgroup nonsense --w
 offers 'site set status' draw s
+offers 'plain picture pull push page' draw help p
 offers '1.1 1.2 1.3 1.4 1.5 1.6' draw move 50 0 1.
+offers 'circle' draw create c
+offers 'place points' draw create polygon p
+offers 'shown' draw set 1.1 sh
+offers '--mine --theirs --site' draw keep -
+offers '' draw bring ''
 offers 'car' draw move 50 0 c
 offers '1.1 1.2 1.3 1.4 1.5 1.6 car fir' draw delete ''
 [ ! -e made ]
