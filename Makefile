@@ -1,6 +1,7 @@
 # Installs figgroup, without a proof: bin/ has the proved program.
 #
-#   make install [PREFIX=/usr/local] [DESTDIR=]   the program, draw, the page, what draw uses, manual pages, completions
+#   make install [PREFIX=/usr/local] [DESTDIR=]   the program, draw, the page, what draw uses, manual pages, completions,
+#                                                 the pages and examples
 #   make deb [TO=.]                               a Debian package of these, figgroup_VERSION_amd64.deb
 
 PREFIX ?= /usr/local
@@ -8,6 +9,9 @@ DESTDIR ?=
 TO ?= .
 at = $(DESTDIR)$(PREFIX)
 version = $(shell bin/figgroup --version | cut -d ' ' -f 2)+$(shell git log -1 --format=%cd.%h --date=format:%Y%m%d)
+
+# Of a link to what the repository alone has, as sources, the words stay.
+unlinked = s/\[([^]]*)\]\((\.\.\/)?(bench|crates|tools)\/[^)]*\)/\1/g
 
 .PHONY: install deb
 
@@ -20,9 +24,11 @@ install:
 	install -m 644 draw/*.py $(at)/share/figgroup/draw
 	/usr/bin/python3 -m compileall -q -s '$(DESTDIR)' --invalidation-mode unchecked-hash $(at)/share/figgroup/draw $(at)/share/figgroup/page
 	install -m 644 page/web/* $(at)/share/figgroup/page/web
-	install -m 644 README.md bin/figgroup.sum $(at)/share/doc/figgroup
-	install -m 644 docs/*.md $(at)/share/doc/figgroup/docs
+	install -m 644 bin/figgroup.sum $(at)/share/doc/figgroup
 	install -m 644 docs/pictures/*.svg docs/pictures/*.png $(at)/share/doc/figgroup/docs/pictures
+	cp -R examples $(at)/share/doc/figgroup
+	for page in README.md docs/*.md; do sed -zE '$(unlinked)' $$page > $(at)/share/doc/figgroup/$$page; done
+	chmod -R u=rwX,go=rX $(at)/share/figgroup $(at)/share/doc/figgroup
 	install -d $(at)/share/man/man1 $(at)/share/bash-completion/completions
 	install -m 644 share/man/* $(at)/share/man/man1
 	install -m 644 share/bash-completion/figgroup $(at)/share/bash-completion/completions

@@ -1,4 +1,5 @@
 #!/bin/sh
+#!/bin/sh
 # Makes the Debian package, unpacks it into a folder of its own, and draws with what lies there, without a kit.
 set -eu
 root=$(cd "$(dirname "$0")/.." && pwd)
@@ -27,8 +28,9 @@ for page in figgroup draw; do
     cmp "$folder/root/usr/share/man/man1/$page.1" "$root/share/man/$page.1"
     cmp "$folder/root/usr/share/bash-completion/completions/$page" "$root/share/bash-completion/figgroup"
 done
-# The pages stand as the README links to them, and as messages of draw name them.
-for page in docs/FAULTS.md docs/pictures/way.svg; do
+# The pages stand as the README links to them, and as messages of draw name them. Each of their links leads somewhere.
+for page in docs/FAULTS.md docs/pictures/way.svg examples/red-box/input.jsonl; do
     cmp "$folder/root/usr/share/doc/figgroup/$page" "$root/$page"
 done
+"$root/tools/links.py" "$folder/root/usr/share/doc/figgroup"
 echo "package: draws"

@@ -2,17 +2,19 @@
 """Says which links of the pages lead nowhere, to a file that is not there, or to a heading that its page has not; and
 which names of the code no crate has.
 
-Read are README.md, docs/*.md, crates/README.md and examples/*/README.md. Links into the web are left alone. A name is
-one of a crate, as gf_ops or gf_ops::is_next, and in docs/CLAIMS.md each name. With --check or without, nothing is written,
-and the status is 1 where something is told."""
+Read are README.md, docs/*.md, crates/README.md and examples/*/README.md, of the repository, or of a FOLDER that make
+install filled, where no name of the code is looked at. Links into the web are left alone. A name is one of a crate, as
+gf_ops or gf_ops::is_next, and in docs/CLAIMS.md each name. With --check or without, nothing is written, and the status
+is 1 where something is told."""
 
 import functools
 import re
 import sys
 from pathlib import Path
 
-ROOT = Path(__file__).resolve().parent.parent
-PAGES = [ROOT / page for page in ('README.md', 'crates/README.md')]
+FOLDERS = [Path(word).resolve() for word in sys.argv[1:] if word != '--check']
+ROOT = FOLDERS[0] if FOLDERS else Path(__file__).resolve().parent.parent
+PAGES = [ROOT / page for page in ('README.md', 'crates/README.md') if (ROOT / page).exists()]
 PAGES += sorted([*ROOT.glob('docs/*.md'), *ROOT.glob('examples/*/README.md')])
 CLAIMS = ROOT / 'docs/CLAIMS.md'
 LINK = re.compile(r'\]\(([^()\s]+)\)')
@@ -81,7 +83,8 @@ def names(page):
 
 def main():
     told = [(page, line, link, why) for page in PAGES for line, link in links(page) if (why := fault(page, link))]
-    told += [(page, line, name, 'no crate has it') for page in PAGES for line, name in names(page) if is_lost(page, name)]
+    if not FOLDERS:
+        told += [(page, line, name, 'no crate has it') for page in PAGES for line, name in names(page) if is_lost(page, name)]
     sys.exit('\n'.join(f'{page.relative_to(ROOT)}:{line}: {what}: {why}' for page, line, what, why in told) or 0)
 
 
