@@ -27,6 +27,7 @@ It needs python3-tornado, and the program figgroup (FIGGROUP names it, or it is 
 """
 import argparse
 import asyncio
+import errno
 import fcntl
 import hmac
 import ipaddress
@@ -228,12 +229,18 @@ class Words(argparse.ArgumentParser):
         sys.exit(2)
 
 
+def port(word):
+    if not (word.isdecimal() and 0 < int(word) < 2 ** 16):
+        raise argparse.ArgumentTypeError(f'a port is a number from 1 to 65535, and not {word}')
+    return int(word)
+
+
 def read_words():
     words = Words(prog='draw page', usage='draw page SITE=NAME.. [--port N] [--listen ADDRESS] [--host NAME:PORT]',
                   description='Lets designers draw in the browser, each by an address of their own.')
     words.add_argument('folder', type=pathlib.Path, help='`draw page` takes the one where it is typed')
     words.add_argument('designers', nargs='*', metavar='SITE=NAME', help='those of the last time, where none is told')
-    words.add_argument('--port', type=int, default=8140, help='8140, unless told')
+    words.add_argument('--port', type=port, default=8140, help='8140, unless told')
     words.add_argument('--listen', default='127.0.0.1', metavar='ADDRESS', help='0.0.0.0 lets the network in, unencrypted')
     words.add_argument('--host', action='append', default=[], metavar='NAME:PORT', help='a name by which pages call')
     told = words.parse_args()
@@ -246,6 +253,8 @@ def read_words():
         site, _, name = designer.partition('=')
         if site not in map(str, SITES) or not name.strip():
             words.error(f'a designer is told as 1=Ann, of site 1 to 8, and not as {designer}')
+        if int(site) in told.names:
+            words.error(f'{site} is told twice: each designer has another number')
         told.names[int(site)] = name.strip()[:40]
     told.names = told.names or {site: name for site, (_, name) in read_known(told.folder).items()}
     if not told.names:
@@ -298,7 +307,8 @@ async def main():
     try:
         server.listen(told.port, told.listen)
     except OSError as error:
-        sys.exit(f'draw: {told.listen} port {told.port}: {error.strerror}')
+        way = ': --port N names another' if error.errno in (errno.EADDRINUSE, errno.EACCES) else ''
+        sys.exit(f'draw: {told.listen} port {told.port}: {error.strerror}{way}')
     say_where(told, known)
     drawing.changed.set()
     with lock:

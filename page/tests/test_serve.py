@@ -7,6 +7,7 @@ import os
 import pathlib
 import signal
 import subprocess
+import tempfile
 import unittest
 import urllib.error
 import urllib.request
@@ -192,6 +193,18 @@ class Strangers(ServeTest):
         with self.assertRaises(CLOSED):
             await (await Client().open(self.server.address[1], joins=False)).hear('refused')
         self.assertEqual(64, len(clients))
+
+    def test_words(self):
+        """What is wrong with the words by which the server begins is told, and nothing is served."""
+        taken = str(self.server.port)
+        for words, told in [(['Ann'], 'a designer is told as 1=Ann'), (['1=Ann', '1=Ben'], '1 is told twice'), ([], 'who draws?'),
+                            (['1=Ann', '--port', '65536'], 'from 1 to 65535'), (['1=Ann', '--port', 'x'], 'from 1 to 65535'),
+                            (['1=Ann', '--listen', 'home'], 'an address has numbers'),
+                            (['1=Ann', '--port', taken], 'Address already in use: --port N names another')]:
+            with tempfile.TemporaryDirectory() as folder:
+                said = subprocess.run([PAGE / 'serve.py', folder, *words], capture_output=True, text=True, timeout=30)
+            self.assertIn(told, said.stderr)
+            self.assertEqual((1 if taken in words else 2, ''), (said.returncode, said.stdout))
 
     def test_files(self):
         self.assertEqual(0o600, os.stat(self.server.folder / 'drawing.secrets').st_mode & 0o777)
