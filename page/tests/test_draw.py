@@ -269,6 +269,7 @@ class Gestures(PageTest):
         page = self.page()
         page.press('?')
         wait(lambda: 'Undo' in page.text('#keys dd'))
+        self.assertEqual({'R, F4', 'Ctrl+Z', '?'}, {'R, F4', 'Ctrl+Z', '?'} & set(page.text('#keys dt')))
         wait(lambda: page.js('return document.querySelector("#help").open'))
         shot(page, 'help')
         page.press('r')  # no key has its word meanwhile

@@ -28,7 +28,7 @@ const find = selector => document.querySelector(selector);
 const all = selector => document.querySelectorAll(selector);
 
 // A key as it stands on the keyboard.
-const printed = key => key.replace(/^Ctrl\+(.)$/, (_, letter) =>
+const printed = key => key.length === 1 ? key.toUpperCase() : key.replace(/^Ctrl\+(.)$/, (_, letter) =>
     letter === letter.toUpperCase() ? `Ctrl+Shift+${letter}` : `Ctrl+${letter.toUpperCase()}`);
 
 // Puts such elements there, unless they read the same: so the focus stays where it is.
