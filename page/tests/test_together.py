@@ -43,6 +43,20 @@ class Together(PageTest):
             page.wait_text('.versions b', [])
         self.assertNotIn('object', self.server.figgroup('status').replace('object 1.1 has 2 versions, 1 shown', ''))
 
+    def test_two_colours(self):
+        """Of two versions at one place the badges stand beside each other."""
+        ann, ben = self.two()
+        ben.click(1500, 1500)
+        ben.module('live.start()')
+        ann.button('[title="#d64545"]')
+        ann.wait_for('saved')
+        ben.button('[title="#2e7d32"]')
+        ben.module('live.rest()')
+        for page in (ann, ben):
+            wait(lambda: sorted(page.text('.versions b')) == ["Ann's colour", "Ben's colour"], what=lambda: page.text('.versions b'))
+            left = page.js('return [...document.querySelectorAll(".badge")].map(node => node.getBoundingClientRect().x)')
+            self.assertGreater(abs(left[0] - left[1]), 18)
+
     def test_undo_of_a_settlement(self):
         """Both see both versions again, each with the name of its designer, and one of them after a redo."""
         ann, ben = self.two_versions()

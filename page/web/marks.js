@@ -5,14 +5,17 @@ import {versions} from './versions.js';
 export const EDGES = {nw: [0, 1], n: [1], ne: [2, 1], e: [2], se: [2, 3], s: [3], sw: [0, 3], w: [0]};
 const PAD = 7;  // pixels between a figure and its handles
 const ABOVE = 24;  // pixels between a figure and its badge
+const WIDE = 22;  // pixels from a badge to the next one
 const coarse = matchMedia('(pointer: coarse)');
 const sizes = () => coarse.matches ? {edge: 16, corner: 10, between: 7} : {edge: 8, corner: 5, between: 3};
 
 export function marks(canvas) {
     const {drawing, live, figures, tool} = canvas, {unit} = canvas.view, all = [];
-    const conflicting = versions(figures, live);
+    const conflicting = versions(figures, live), badges = new Map();
     for (const {figure, designer} of conflicting) {
-        all.push(outline(figure, 'halo'), outline(figure, 'version', designer.colour), badge(figure, designer, unit));
+        const place = String(bounds(figure)), before = badges.get(place) ?? 0;
+        all.push(outline(figure, 'halo'), outline(figure, 'version', designer.colour), badge(figure, designer, unit, before));
+        badges.set(place, before + 1);
     }
     for (const {site, holds} of live.designers) {
         if (site === live.site || !holds.length) continue;
@@ -45,9 +48,10 @@ function waiting(drawing, live) {
     ];
 }
 
-function badge(figure, {name, colour}, unit) {
-    const [left, top, right] = bounds(figure);
-    const place = `translate(${(left + right) / 2} ${top - ABOVE * unit}) scale(${unit})`;
+// Whose version it is; beside so many badges of versions at the same place.
+function badge(figure, {name, colour}, unit, before) {
+    const [left, top, right] = bounds(figure), x = (left + right) / 2 + before * WIDE * unit;
+    const place = `translate(${x} ${top - ABOVE * unit}) scale(${unit})`;
     return svg('g', {transform: place, class: 'badge'},
         svg('circle', {r: 9, style: `fill: ${colour}`}), svg('text', {y: 4}, name.slice(0, 1).toUpperCase()));
 }
