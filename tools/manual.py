@@ -79,7 +79,8 @@ def draw_page():
     for line in told('draw', 'help').splitlines():
         form, text = re.split(r'\s{2,}', line.strip(), maxsplit=1)
         lines += tagged(form, text)
-    lines += ['.SH EXIT STATUS', '0 where the word was done, else 1.', '.SH ENVIRONMENT']
+    lines += ['.SH EXIT STATUS', '0 where the word was done; 1 where it was refused; 2 where it was typed otherwise.']
+    lines.append('.SH ENVIRONMENT')
     lines += tagged('FIG_EDITOR', 'the editor that opens the drawing, in place of xfig.')
     return lines + ['.SH SEE ALSO', '.BR figgroup (1), xfig (1)']
 
