@@ -35,6 +35,7 @@ import json
 import pathlib
 import re
 import secrets
+import socket
 import sys
 import time
 
@@ -52,6 +53,7 @@ from sitefile import Behind, Refusal, write_whole
 WEB = pathlib.Path(__file__).resolve().parent / 'web'
 TYPES = {'.html': 'text/html', '.css': 'text/css', '.js': 'text/javascript'}
 FILES = {file.name: TYPES[file.suffix] for file in WEB.iterdir() if file.suffix in TYPES}
+ANYWHERE = ('0.0.0.0', '::')  # to listen at all addresses of the machine
 MOST_PAGES = 64
 MOST_MESSAGES = 100  # at once from one page,
 PACE = 25  # and in a second
@@ -71,7 +73,8 @@ class Guarded:
     """Lets in who names this server and knows the secret of a site."""
 
     def prepare(self):
-        if self.request.host not in self.settings['hosts']:  # a name that somebody else bound to this address
+        host = self.request.host
+        if not any(is_told(name, self.settings) for name in (host, f'{host}:80')):  # browsers leave out the port 80
             raise tornado.web.HTTPError(421)
         secret = self.request.path.split('/')[1]
         self.site = None
@@ -84,6 +87,17 @@ class Guarded:
     def set_default_headers(self):
         for name, value in HEADERS.items():
             self.set_header(name, value)
+
+
+def is_told(host, settings):
+    """Whether pages call this server so: by a name that it was told, and no other that somebody bound to its address; or
+    by an address in numbers, where it listens at all of them."""
+    address, _, port = host.rpartition(':')
+    try:
+        return host in settings['hosts'] or (
+            port == settings['port_by_number'] and bool(ipaddress.ip_address(address.strip('[]'))))
+    except ValueError:
+        return False
 
 
 class PageFile(Guarded, tornado.web.RequestHandler):
@@ -115,7 +129,7 @@ class Page(Guarded, tornado.websocket.WebSocketHandler):
     """An open page."""
 
     def check_origin(self, origin):
-        return origin in [f'http://{host}' for host in self.settings['hosts']] + self.settings['origins']
+        return origin in [f'http://{self.request.host}', *self.settings['origins']]
 
     def open(self):
         self.drawing = self.settings['drawing']
@@ -280,8 +294,18 @@ def bracketed(address):
     return f'[{address}]' if ':' in address else address
 
 
+def own_address():
+    """The address by which this machine calls others. Nothing is sent."""
+    with socket.socket(socket.AF_INET, socket.SOCK_DGRAM) as probe:
+        try:
+            probe.connect(('192.0.2.1', 9))
+            return probe.getsockname()[0]
+        except OSError:
+            return '127.0.0.1'
+
+
 def say_where(told, known):
-    here = '127.0.0.1' if told.listen in ('0.0.0.0', '::') else bracketed(told.listen)
+    here = own_address() if told.listen in ANYWHERE else bracketed(told.listen)
     name = told.host[0] if told.host else f'{here}:{told.port}'
     for site, designer in told.names.items():
         print(f'{designer} draws at http://{name}/{known[site]}/', flush=True)
@@ -295,12 +319,12 @@ async def main():
     lock = hold(told.folder)
     known = keep_known(told.folder, told.names)
     hosts = {f'127.0.0.1:{told.port}', f'localhost:{told.port}', *told.host}
-    if told.listen not in ('0.0.0.0', '::'):
+    if told.listen not in ANYWHERE:
         hosts.add(f'{bracketed(told.listen)}:{told.port}')
     drawing = Drawing(told.folder, told.names)
     application = tornado.web.Application(
         [(r'/[^/]+/live', Page), (r'/[^/]+/([a-z.]*)', PageFile)], drawing=drawing, secrets=known, hosts=hosts,
-        origins=[f'https://{host}' for host in told.host],
+        port_by_number=str(told.port) if told.listen in ANYWHERE else None, origins=[f'https://{host}' for host in told.host],
         log_function=lambda handler: None,  # no secrets in logs
         websocket_max_message_size=MOST_BYTES, websocket_ping_interval=20)
     server = tornado.httpserver.HTTPServer(application, max_body_size=MOST_BYTES, idle_connection_timeout=60)

@@ -16,7 +16,7 @@ import tornado.httpclient
 import tornado.websocket
 
 from client import Client, box, drawing, origin
-from helpers import FIGGROUP, PAGE, Server, wait
+from helpers import FIGGROUP, PAGE, Server, free_port, wait
 
 CRASH = pathlib.Path(__file__).with_name('crash_serve.py')
 CLOSED = (ConnectionError, tornado.websocket.WebSocketClosedError)
@@ -205,6 +205,26 @@ class Strangers(ServeTest):
                 said = subprocess.run([PAGE / 'serve.py', folder, *words], capture_output=True, text=True, timeout=30)
             self.assertIn(told, said.stderr)
             self.assertEqual((1 if taken in words else 2, ''), (said.returncode, said.stdout))
+
+    def test_listens_anywhere(self):
+        """Then an address in numbers is that of the server, with its port, and another name is not. Port 80 may be left out."""
+        for port, hosts in [(free_port(), {'127.0.0.1:%d': 200, '6.6.6.6:%d': 200, '[::1]:%d': 200, 'localhost:%d': 200,
+                                           'evil.example:%d': 421, '127.0.0.1:1%d': 421, '127.0.0.1': 421, '1.2.3:%d': 421}),
+                            (80, {'127.0.0.1': 200, '127.0.0.1:80': 200, '6.6.6.6': 200, 'evil.example': 421})]:
+            if port == 80 and os.getuid():
+                continue
+            with tempfile.TemporaryDirectory() as folder:
+                words = [PAGE / 'serve.py', folder, '1=Ann', '--listen', '0.0.0.0', '--port', str(port)]
+                server = subprocess.Popen(words, stdout=subprocess.PIPE, stderr=subprocess.PIPE, text=True)
+                try:
+                    told = server.stdout.readline()
+                    self.assertRegex(told, rf'Ann draws at http://[0-9.]*:{port}/')
+                    address = f'http://127.0.0.1:{port}/{told.split("/")[3]}/'
+                    for host, status in hosts.items():
+                        self.assertEqual(status, self.status(address, Host=host.replace('%d', str(port)))[0], host)
+                finally:
+                    server.kill()
+                    server.communicate()
 
     def test_files(self):
         self.assertEqual(0o600, os.stat(self.server.folder / 'drawing.secrets').st_mode & 0o777)

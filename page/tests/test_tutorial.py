@@ -103,7 +103,7 @@ class Tutorial(PageTest):
         process = subprocess.Popen([DRAW, 'page', '--port', str(free_port()), '--listen', '0.0.0.0'], env=environment,
                                    cwd=self.server.folder, stdout=subprocess.PIPE, stderr=subprocess.PIPE, text=True)
         try:
-            self.assertIn('Ann draws at http://127.0.0.1:', process.stdout.readline())
+            self.assertIn('Ann draws at http://', process.stdout.readline())
             process.stdout.readline()
             self.assertIn('is not encrypted', process.stderr.readline())
         finally:
