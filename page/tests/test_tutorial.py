@@ -73,6 +73,8 @@ class Tutorial(PageTest):
             page.wait_for('saved')
         self.assertEqual('2e7d32', self.server.colour_at(1000, 3000))
         self.assertEqual('2e7d32', self.server.colour_at(4800, 3000))
+        said, _ = self.server.draw('status').communicate()
+        self.assertRegex(said, '^1.5 place: Ann .*, Ben .*\n')
 
     def offline_and_back(self, ann, ben):
         self.server.kill()
@@ -110,7 +112,7 @@ class Tutorial(PageTest):
             process.kill()
             process.communicate()
         said = subprocess.run(['git', 'status', '--short'], cwd=self.server.folder, capture_output=True, text=True, check=True)
-        self.assertEqual('', said.stdout)
+        self.assertEqual('?? designers\n', said.stdout)
 
 
 if __name__ == '__main__':
