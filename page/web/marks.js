@@ -5,7 +5,7 @@ import {versions} from './versions.js';
 export const EDGES = {nw: [0, 1], n: [1], ne: [2, 1], e: [2], se: [2, 3], s: [3], sw: [0, 3], w: [0]};
 const PAD = 7;  // pixels between a figure and its handles
 const ABOVE = 24;  // pixels between a figure and its badge
-const WIDE = 22;  // pixels from a badge to the next one
+const WIDE = 22;  // pixels from a badge to the next one, or to a name
 const coarse = matchMedia('(pointer: coarse)');
 const sizes = () => coarse.matches ? {edge: 16, corner: 10, between: 7} : {edge: 8, corner: 5, between: 3};
 
@@ -23,7 +23,7 @@ export function marks(canvas) {
         const ones = figures.filter(({object}) => held.has(object));
         all.push(...ones.map(figure => outline(figure, 'held', colour)));
         const theirs = conflicting.find(({figure, designer}) => designer.site === site && held.has(figure.object));
-        if (ones.length) all.push(tag(theirs?.figure ?? ones[0], name, colour, unit));
+        if (ones.length) all.push(tag(theirs?.figure ?? ones[0], name, colour, unit, theirs ? WIDE : 0));
     }
     for (const figure of figures) if (live.faults.has(figure.key)) all.push(outline(figure, 'fault'));
     all.push(...waiting(drawing, live));
@@ -56,10 +56,10 @@ function badge(figure, {name, colour}, unit, before) {
         svg('circle', {r: 9, style: `fill: ${colour}`}), svg('text', {y: 4}, name.slice(0, 1).toUpperCase()));
 }
 
-// Who has selected it.
-function tag(figure, name, colour, unit) {
-    const [left, top] = bounds(figure), wide = 6.6 * name.length + 12;
-    return svg('g', {transform: `translate(${left} ${top - (ABOVE + 8) * unit}) scale(${unit})`, class: 'tag'},
+// Who has selected it; above a badge, so much higher.
+function tag(figure, name, colour, unit, higher) {
+    const [left, top] = bounds(figure), wide = 7 * name.length + 12;
+    return svg('g', {transform: `translate(${left} ${top - (ABOVE + 8 + higher) * unit}) scale(${unit})`, class: 'tag'},
         svg('rect', {width: wide, height: 17, rx: 4, style: `fill: ${colour}`}),
         svg('text', {x: wide / 2, y: 12.5}, name));
 }
