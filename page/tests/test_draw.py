@@ -225,6 +225,10 @@ class Gestures(PageTest):
             self.fill(fields[side], typed)
             wait(lambda: ' '.join(field.get_property('value') for field in fields) == told,
                  what=lambda: (typed, [field.get_property('value') for field in fields]))
+        fields[0].send_keys(Keys.CONTROL, 'a', Keys.NULL)
+        fields[0].send_keys('77', Keys.ESCAPE)
+        self.assertEqual('300', fields[0].get_property('value'))
+        self.assertTrue(page.js('return document.activeElement.matches("#canvas")'))
         self.made(7)  # of a circle that grows or shrinks its place changes, too
 
     def test_refused_and_mended(self):

@@ -55,6 +55,7 @@ export class Panels {
         find('#more').onclick = () => document.body.classList.toggle('open');
         for (const input of all('#measures input[data-side]')) input.onchange = () => this.#measure(input);
         find('#measures').addEventListener('input', ({target}) => this.#typed = target);
+        find('#measures').addEventListener('keydown', ({key}) => key === 'Escape' && this.#leave());
         for (const event of ['change', 'focusout']) find('#measures').addEventListener(event, () => {
             this.#typed = null;
             this.#later();
@@ -248,6 +249,13 @@ export class Panels {
         const polygon = chosen.length === 1 && chosen[0].kind === 'polygon';
         find('#corners').parentNode.hidden = !polygon;
         if (polygon) this.#fill('#corners', chosen[0].shape.join(' ').replace(/(\S+) (\S+)/g, '$1,$2'));
+    }
+
+    // Gives up what is typed in a field.
+    #leave() {
+        this.#typed = null;
+        this.#measures();
+        find('#canvas').focus();
     }
 
     #fill(selector, value) {
