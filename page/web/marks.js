@@ -23,7 +23,8 @@ export function marks(canvas) {
         const ones = figures.filter(({object}) => held.has(object));
         all.push(...ones.map(figure => outline(figure, 'held', colour)));
         const theirs = conflicting.find(({figure, designer}) => designer.site === site && held.has(figure.object));
-        if (ones.length) all.push(tag(theirs?.figure ?? ones[0], name, colour, unit, theirs ? WIDE : 0));
+        const one = theirs?.figure ?? ones[0];
+        if (one) all.push(tag(one, name, colour, unit, badges.has(String(bounds(one))) ? WIDE : 0));
     }
     for (const figure of figures) if (live.faults.has(figure.key)) all.push(outline(figure, 'fault'));
     all.push(...waiting(drawing, live));

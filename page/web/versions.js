@@ -3,8 +3,8 @@ import {apart} from './fig.js';
 
 const ATTRIBUTES = ['place', 'points', 'size', 'colour', 'layer'];
 
-// The figures of objects that have several versions, each with the designer of what tells it apart. An undo of a
-// settlement brings back what the server has told of one version alone: that waits until it tells of both.
+// The figures of objects that have several versions, each with the designer of what tells it apart. A version that an
+// undo brought back waits until the server has told each of them apart.
 export function versions(figures, live) {
     const told = figures.filter(figure => apart(figure).length), count = new Map();
     for (const {object} of told) count.set(object, (count.get(object) ?? 0) + 1);
