@@ -22,6 +22,7 @@ WITHOUT_LINES = ('site', 'page', 'bring')  # words for a folder without any oper
 MEANINGS = {
     'KIND': 'KIND is box, circle, ellipse or polygon', 'DX': 'DX and DY are whole numbers of up to 7 digits',
     'OBJECT': 'OBJECT is 1.6, 1.6-1.13 or a name', 'OPERATION': 'OPERATION is 1.6',
+    'NAME': 'NAME has letters, digits, - and _, a letter first',
 }
 LEAST, MOST = 10, 3600  # seconds between two pulls of a watch
 
@@ -58,7 +59,8 @@ def main(document, typed):
 
 def usage_of(forms):
     """What the words of the forms mean."""
-    means = [meaning for word, meaning in MEANINGS.items() if any(word in form for form in forms)]
+    typed = {kind.strip('[]').removesuffix('..') for form in forms for kind in form.split('  ')[0].split()}
+    means = [meaning for word, meaning in MEANINGS.items() if word in typed]
     return f'draw: it is typed so{", where " if means else ""}{", and ".join(means)}:'
 
 
