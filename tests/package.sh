@@ -1,5 +1,4 @@
 #!/bin/sh
-#!/bin/sh
 # Makes the Debian package, unpacks it into a folder of its own, and draws with what lies there, without a kit.
 set -eu
 root=$(cd "$(dirname "$0")/.." && pwd)
