@@ -17,10 +17,10 @@ use Rattle.gf_worker.specs.Messages.{own, messages_of, ops_of, last_message}
 use Rattle.gf_worker.specs.Played.{IsPlayed}
 use Rattle.gf_worker.specs.Ending.{HasSent, HasWorked}
 use Rattle.gf_mesh.specs.Settled.{AreAllTaken}
-use Rattle.gf_session.specs.declared.starting.Start.{Start}
+use Rattle.gf_session.specs.declared.starting.SiteToRun.{SiteToRun}
 use Rattle.gf_session.specs.Outcome.{SiteEnd, IsSiteOutcome}
 use Rattle.gf_session.specs.Joined.{IsFrom, IsComplete, AreJoined, HaveOne}
-use Rattle.gf_session.specs.Starting.{AreStarts, Gave, GaveAll}
+use Rattle.gf_session.specs.Starting.{AreSitesToRun, Gave, GaveAll}
 use Rattle.gf_session.specs.Session.{IsSession, done_of, site_end, site_ends}
 use Rattle.gf_site.specs.Course.{IsCourse}
 use Rattle.gf_base.proofs.ListLemmas.{Contains-map_from}
@@ -87,47 +87,47 @@ pub same_ops : (ends : List WorkerEnd) → HaveOne ends → (e f : WorkerEnd) �
 same_ops ends one e f c d a = let p = one.same e c a in let q = one.same f d a in
     (λ k. q.1 (p.0 k), λ k. p.1 (q.0 k))
 
--- ---- the starts and what their workers gave, by their indexes
+-- ---- the sites to run and what their workers gave, by their indexes
 
--- the start at the place of a worker's end
-record Begun (starts : List Start) (k : ℕ) (e : WorkerEnd) : Type 0 where
-  start : Start
-  at : slice_get starts k ≡ Some start
-  gave : Gave start e
+-- the site to run at the place of a worker's end
+record Begun (sites : List SiteToRun) (k : ℕ) (e : WorkerEnd) : Type 0 where
+  to_run : SiteToRun
+  at : slice_get sites k ≡ Some to_run
+  gave : Gave to_run e
 
-begun_at : (starts : List Start) (ends : List WorkerEnd) → GaveAll starts ends
-    → (k : ℕ) (e : WorkerEnd) → slice_get ends k ≡ Some e → Begun starts k e
+begun_at : (sites : List SiteToRun) (ends : List WorkerEnd) → GaveAll sites ends
+    → (k : ℕ) (e : WorkerEnd) → slice_get ends k ≡ Some e → Begun sites k e
 begun_at [] [] g k e q = absurd cc
 begun_at [] (x ∷ ends) g k e q = absurd g
-begun_at (s ∷ starts) [] g k e q = absurd cc
-begun_at (s ∷ starts) (x ∷ ends) g zero e q = let i : x ≡ e = cc in record {
-  start = s;
+begun_at (s ∷ sites) [] g k e q = absurd cc
+begun_at (s ∷ sites) (x ∷ ends) g zero e q = let i : x ≡ e = cc in record {
+  to_run = s;
   at = refl;
   gave = subst (Gave s) i g.0;
 }
-begun_at (s ∷ starts) (x ∷ ends) g (suc k) e q = let o = begun_at starts ends g.1 k e q in
-    record { start = o.start; at = o.at; gave = o.gave }
+begun_at (s ∷ sites) (x ∷ ends) g (suc k) e q = let o = begun_at sites ends g.1 k e q in
+    record { to_run = o.to_run; at = o.at; gave = o.gave }
 
--- the worker's end and its start at a place of a session
-record Played (starts : List Start) (ends : List WorkerEnd) (k : ℕ) (p : SiteEnd) : Type 0 where
-  start : Start
+-- the worker's end and its site to run at a place of a session
+record Played (sites : List SiteToRun) (ends : List WorkerEnd) (k : ℕ) (p : SiteEnd) : Type 0 where
+  to_run : SiteToRun
   end : WorkerEnd
-  starts_at : slice_get starts k ≡ Some start
+  to_run_at : slice_get sites k ≡ Some to_run
   ends_at : slice_get ends k ≡ Some end
-  is : p ≡ site_end start.script (done_of end)
+  is : p ≡ site_end to_run.script (done_of end)
 
-played_at : (starts : List Start) (ends : List WorkerEnd) → GaveAll starts ends
-    → (k : ℕ) (p : SiteEnd) → slice_get (site_ends (map (λ s. s.script) starts) (map done_of ends))
-    k ≡ Some p → Played starts ends k p
+played_at : (sites : List SiteToRun) (ends : List WorkerEnd) → GaveAll sites ends
+    → (k : ℕ) (p : SiteEnd) → slice_get (site_ends (map (λ s. s.script) sites) (map done_of ends))
+    k ≡ Some p → Played sites ends k p
 played_at [] ends g k p q = absurd cc
-played_at (s ∷ starts) [] g k p q = absurd cc
-played_at (s ∷ starts) (x ∷ ends) g zero p q = let i : site_end s.script (done_of x) ≡ p = cc in
-    record { start = s; end = x; starts_at = refl; ends_at = refl; is = sym i }
-played_at (s ∷ starts) (x ∷ ends) g (suc k) p q =
-    let o = played_at starts ends g.1 k p q in record {
-      start = o.start;
+played_at (s ∷ sites) [] g k p q = absurd cc
+played_at (s ∷ sites) (x ∷ ends) g zero p q = let i : site_end s.script (done_of x) ≡ p = cc in
+    record { to_run = s; end = x; to_run_at = refl; ends_at = refl; is = sym i }
+played_at (s ∷ sites) (x ∷ ends) g (suc k) p q =
+    let o = played_at sites ends g.1 k p q in record {
+      to_run = o.to_run;
       end = o.end;
-      starts_at = o.starts_at;
+      to_run_at = o.to_run_at;
       ends_at = o.ends_at;
       is = o.is;
     }
@@ -155,21 +155,21 @@ lists_are (e ∷ ends) = ap (λ l. e.site.ops ∷ l) (lists_are ends)
 
 -- ---- the session
 
-module _ (scripts : List Script) (rows : List (List Peer)) (starts : List Start)
-    (ends : List WorkerEnd) (begun : AreStarts scripts rows starts) (gave : GaveAll starts ends)
+module _ (scripts : List Script) (rows : List (List Peer)) (sites : List SiteToRun)
+    (ends : List WorkerEnd) (begun : AreSitesToRun scripts rows sites) (gave : GaveAll sites ends)
     (long : list_any (λ e. e.short) ends ≡ false) where
   number : (k : ℕ) (e : WorkerEnd) → slice_get ends k ≡ Some e → e.site.number ≡ k + 1
-  number k e q = let o = begun_at starts ends gave k e q in gave_number o.start e o.gave
-      ∙ ap (λ (x : SiteState). x.number) (begun.sites_are k o.start o.at)
+  number k e q = let o = begun_at sites ends gave k e q in gave_number o.to_run e o.gave
+      ∙ ap (λ (x : SiteState). x.number) (begun.sites_are k o.to_run o.at)
 
   worked : (k : ℕ) (e : WorkerEnd) (q : slice_get ends k ≡ Some e)
-      → let o = begun_at starts ends gave k e q in HasWorked (k + 1) o.start.script.0.items
-      o.start.peers.items e
+      → let o = begun_at sites ends gave k e q in HasWorked (k + 1) o.to_run.script.0.items
+      o.to_run.peers.items e
   worked k e q =
-      let o = begun_at starts ends gave k e q in
-      subst (λ n. HasWorked n o.start.script.0.items o.start.peers.items e)
-      (ap (λ (x : SiteState). x.number) (begun.sites_are k o.start o.at))
-      (gave_worked o.start e o.gave (none_short ends long k e q))
+      let o = begun_at sites ends gave k e q in
+      subst (λ n. HasWorked n o.to_run.script.0.items o.to_run.peers.items e)
+      (ap (λ (x : SiteState). x.number) (begun.sites_are k o.to_run o.at))
+      (gave_worked o.to_run e o.gave (none_short ends long k e q))
 
   pub ended : (k : ℕ) (e : WorkerEnd) → slice_get ends k ≡ Some e → (p : Peer)
       → Contains e.seats.items p → IsTrue (is_ended p.take.taken)
@@ -193,8 +193,8 @@ module _ (scripts : List Script) (rows : List (List Peer)) (starts : List Start)
     joined = record {
       complete = λ e c.
           let k = position_at ends e c in
-          let o = begun_at starts ends gave k.0 e k.1 in complete (k.0 + 1) o.start.script.0.items
-          o.start.peers.items e (none_short ends long k.0 e k.1) (worked k.0 e k.1);
+          let o = begun_at sites ends gave k.0 e k.1 in complete (k.0 + 1) o.to_run.script.0.items
+          o.to_run.peers.items e (none_short ends long k.0 e k.1) (worked k.0 e k.1);
       one = λ e f c d n.
           let k = position_at ends e c in
           let j = position_at ends f d in
@@ -229,13 +229,13 @@ module _ (scripts : List Script) (rows : List (List Peer)) (starts : List Start)
           };
     }
 
-    each_one : (k : ℕ) (s : Start) (e : WorkerEnd) → slice_get starts k ≡ Some s
+    each_one : (k : ℕ) (s : SiteToRun) (e : WorkerEnd) → slice_get sites k ≡ Some s
         → slice_get ends k ≡ Some e → IsSiteOutcome (site_end s.script (done_of e))
     each_one k s e a b =
-        let o = begun_at starts ends gave k e b in
-        let i : o.start ≡ s = one_value starts k o.start s o.at a in
-        subst (λ (x : Start). IsSiteOutcome (site_end x.script (done_of e))) i
-        (site_outcome (k + 1) o.start.script o.start.peers.items e (none_short ends long k e b)
+        let o = begun_at sites ends gave k e b in
+        let i : o.to_run ≡ s = one_value sites k o.to_run s o.at a in
+        subst (λ (x : SiteToRun). IsSiteOutcome (site_end x.script (done_of e))) i
+        (site_outcome (k + 1) o.to_run.script o.to_run.peers.items e (none_short ends long k e b)
         (worked k e b))
 
     have_one : HaveOne ends
@@ -263,24 +263,24 @@ module _ (scripts : List Script) (rows : List (List Peer)) (starts : List Start)
           omega (arith, site, place, l, m);
     }
 
-    outcome_here : IsSession (map (λ s. s.script) starts) (map done_of ends)
+    outcome_here : IsSession (map (λ s. s.script) sites) (map done_of ends)
     outcome_here =
-        let all : List SiteEnd = site_ends (map (λ s. s.script) starts) (map done_of ends) in
+        let all : List SiteEnd = site_ends (map (λ s. s.script) sites) (map done_of ends) in
         record {
-          long = length-map ends done_of ∙ same_long starts ends gave
-              ∙ sym (length-map starts (λ (s : Start). s.script));
+          long = length-map ends done_of ∙ same_long sites ends gave
+              ∙ sym (length-map sites (λ (s : SiteToRun). s.script));
           outcome = record {
-            numbers = λ k p q. let t = played_at starts ends gave k p q in
+            numbers = λ k p q. let t = played_at sites ends gave k p q in
                 ap (λ (x : SiteEnd). x.number) t.is ∙ number k t.end t.ends_at;
             each = λ p c.
                 let k = position_at all p c in
-                let t = played_at starts ends gave k.0 p k.1 in
-                subst IsSiteOutcome (sym t.is) (each_one k.0 t.start t.end t.starts_at t.ends_at);
+                let t = played_at sites ends gave k.0 p k.1 in
+                subst IsSiteOutcome (sym t.is) (each_one k.0 t.to_run t.end t.to_run_at t.ends_at);
             same = λ p q c d.
                 let k = position_at all p c in
                 let j = position_at all q d in
-                let t = played_at starts ends gave k.0 p k.1 in
-                let u = played_at starts ends gave j.0 q j.1 in
+                let t = played_at sites ends gave k.0 p k.1 in
+                let u = played_at sites ends gave j.0 q j.1 in
                 subst (λ (x : SiteEnd × SiteEnd). HaveSame x.0.ops x.1.ops)
                 (λ i. (sym t.is i, sym u.is i))
                 (same_ops ends have_one t.end u.end (position_in ends k.0 t.end t.ends_at)

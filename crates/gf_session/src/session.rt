@@ -5,10 +5,10 @@ ghost use Rattle.std.specs.List.{list_any};
 ghost use Rattle.gf_mesh.specs.Linked.{rows_of};
 ghost use Rattle.gf_session.specs.Session.{IsSession, done_of};
 ghost use Rattle.gf_session.specs.SessionErrors.{session_error_text};
-ghost use Rattle.gf_session.specs.Starting.{AreStarts};
+ghost use Rattle.gf_session.specs.Starting.{AreSitesToRun};
 ghost use denote.Param.Send.{IsSync};
 
-use crate::starting::{Start, fork};
+use crate::starting::{SiteToRun, fork};
 use gf_base::OutOfMemory;
 use gf_gate::Gate;
 use gf_mesh::Mesh;
@@ -84,9 +84,9 @@ fn run_sites<R: Threads + Wait + Sync, G: Gate + Sync>(
     ensures { IfOk result (λ v. IsSession scripts.items v.items) }
 {
     let (mesh, peers) = Mesh::new(rt, alloc, scripts.len())?;
-    let starts = starts_of(alloc, scripts, peers)?;
-    let room = Vec::with_capacity(alloc, starts.len())?;
-    let ends = fork(rt, alloc, gate, mesh.links(), starts, room);
+    let sites = sites_to_run(alloc, scripts, peers)?;
+    let room = Vec::with_capacity(alloc, sites.len())?;
+    let ends = fork(rt, alloc, gate, mesh.links(), sites, room);
     if any_short(&ends) {
         return Err(OutOfMemory);
     }
@@ -96,26 +96,26 @@ fn run_sites<R: Threads + Wait + Sync, G: Gate + Sync>(
 }
 
 /// The sites that are to run, numbered from 1: the scripts with the peers in their order.
-fn starts_of(
+fn sites_to_run(
     alloc: Global,
     scripts: Vec<Script>,
     peers: Vec<Vec<Peer>>,
-) -> Result<Vec<Start>, OutOfMemory>
+) -> Result<Vec<SiteToRun>, OutOfMemory>
     requires few { vec_len scripts ≤ 8 }
     requires long { vec_len peers ≡ vec_len scripts }
-    ensures { IfOk result (λ v. AreStarts scripts.items (rows_of peers.items) v.items) }
+    ensures { IfOk result (λ v. AreSitesToRun scripts.items (rows_of peers.items) v.items) }
 {
-    let mut starts = Vec::new(alloc);
+    let mut sites = Vec::new(alloc);
     let mut number = 0;
     for (script, peers) in scripts.into_iter().zip(peers) {
         number += 1;
-        starts.push(Start {
+        sites.push(SiteToRun {
             site: Site::new(alloc, number),
             script,
             peers,
         })?;
     }
-    Ok(starts)
+    Ok(sites)
 }
 
 /// Whether memory was refused to a worker.

@@ -19,7 +19,7 @@ use std::thread::{Promise, Threads};
 
 /// A site that is to run.
 #[derive(Drop)]
-pub(crate) struct Start {
+pub(crate) struct SiteToRun {
     pub(crate) site: Site,
     pub(crate) script: Script,
     pub(crate) peers: Vec<Peer>,
@@ -27,7 +27,7 @@ pub(crate) struct Start {
 
 /// What the thread of a site gives back.
 #[derive(Drop)]
-struct Runs(Snapshot<Start>);
+struct Runs(Snapshot<SiteToRun>);
 
 impl Promise<WorkerEnd> for Runs {
     ghost use Rattle.gf_session.specs.Starting.{Gave};
@@ -36,11 +36,11 @@ impl Promise<WorkerEnd> for Runs {
 }
 
 /// Sends Stop for a site that does not run.
-fn stop_one<R: Wait>(rt: &R, alloc: Global, links: &[Link], start: Start) -> WorkerEnd
-    requires { IsReadyToStart links.now start }
-    ensures { HasStopped start.site start.peers.items result }
+fn stop_one<R: Wait>(rt: &R, alloc: Global, links: &[Link], to_run: SiteToRun) -> WorkerEnd
+    requires { IsReadyToStart links.now to_run }
+    ensures { HasStopped to_run.site to_run.peers.items result }
 {
-    let Start { site, peers, .. } = start;
+    let SiteToRun { site, peers, .. } = to_run;
     stop_worker(rt, alloc, site, Ends { links, peers })
 }
 
@@ -50,16 +50,16 @@ fn run_one<R: Wait, G: Gate>(
     alloc: Global,
     gate: &G,
     links: &[Link],
-    start: Start,
+    to_run: SiteToRun,
 ) -> WorkerEnd
-    requires { IsReadyToStart links.now start }
-    ensures { HasWorked start.site.number start.script.0.items start.peers.items result }
+    requires { IsReadyToStart links.now to_run }
+    ensures { HasWorked to_run.site.number to_run.script.0.items to_run.peers.items result }
 {
-    let Start {
+    let SiteToRun {
         site,
         script,
         peers,
-    } = start;
+    } = to_run;
     site_worker(rt, alloc, site, script, Ends { links, peers }, gate)
 }
 
@@ -70,15 +70,15 @@ fn run_or_stop<R: Wait, G: Gate>(
     gate: &G,
     links: &[Link],
     unstarted: &AtomicBool,
-    start: Start,
+    to_run: SiteToRun,
 ) -> WorkerEnd
-    requires { IsReadyToStart links.now start }
-    ensures { Gave start result }
+    requires { IsReadyToStart links.now to_run }
+    ensures { Gave to_run result }
 {
     if unstarted.load(Ordering::SeqCst) {
-        return stop_one(rt, alloc, links, start);
+        return stop_one(rt, alloc, links, to_run);
     }
-    run_one(rt, alloc, gate, links, start)
+    run_one(rt, alloc, gate, links, to_run)
 }
 
 /// Runs sites at the same time. What they give back goes where `ends` has room.
@@ -88,19 +88,19 @@ pub(crate) fn fork<R: Threads + Wait + Sync, G: Gate + Sync>(
     alloc: Global,
     gate: &G,
     links: &[Link],
-    mut starts: Vec<Start>,
+    mut sites: Vec<SiteToRun>,
     mut ends: Vec<WorkerEnd>,
 ) -> Vec<WorkerEnd>
-    requires ready { All (IsReadyToStart links.now) starts.items }
+    requires ready { All (IsReadyToStart links.now) sites.items }
     requires empty { ends.items ≡ [] }
-    requires room { vec_len starts ≤ vec_capacity ends }
-    ensures gave { GaveAll starts.items result.items }
+    requires room { vec_len sites ≤ vec_capacity ends }
+    ensures gave { GaveAll sites.items result.items }
     ensures room { vec_capacity result ≡ vec_capacity ends }
 {
-    if 1 < starts.len() {
-        return fork_last(rt, alloc, gate, links, starts, ends);
+    if 1 < sites.len() {
+        return fork_last(rt, alloc, gate, links, sites, ends);
     }
-    let Some(only) = starts.pop() else {
+    let Some(only) = sites.pop() else {
         return ends;
     };
     ends.push_reserved(run_one(rt, alloc, gate, links, only));
@@ -115,16 +115,16 @@ fn fork_last<R: Threads + Wait + Sync, G: Gate + Sync>(
     alloc: Global,
     gate: &G,
     links: &[Link],
-    mut starts: Vec<Start>,
+    mut sites: Vec<SiteToRun>,
     ends: Vec<WorkerEnd>,
 ) -> Vec<WorkerEnd>
-    requires ready { All (IsReadyToStart links.now) starts.items }
+    requires ready { All (IsReadyToStart links.now) sites.items }
     requires empty { ends.items ≡ [] }
-    requires room { vec_len starts ≤ vec_capacity ends }
-    ensures gave { GaveAll starts.items result.items }
+    requires room { vec_len sites ≤ vec_capacity ends }
+    ensures gave { GaveAll sites.items result.items }
     ensures room { vec_capacity result ≡ vec_capacity ends }
 {
-    let Some(last) = starts.pop() else {
+    let Some(last) = sites.pop() else {
         return ends;
     };
     let unstarted = AtomicBool::new(false);
@@ -133,10 +133,10 @@ fn fork_last<R: Threads + Wait + Sync, G: Gate + Sync>(
         thread::scope_env(),
         rt,
         move |scope| -> Vec<WorkerEnd>
-            requires { IsSync R.row × IsSync G.row × All (IsReadyToStart links.now) starts.items
+            requires { IsSync R.row × IsSync G.row × All (IsReadyToStart links.now) sites.items
                 × IsReadyToStart links.now last × (ends.items ≡ [])
-                × (length starts.items + 1 ≤ vec_capacity ends) }
-            ensures { GaveAll (starts.items ++ last ∷ []) result.items
+                × (length sites.items + 1 ≤ vec_capacity ends) }
+            ensures { GaveAll (sites.items ++ last ∷ []) result.items
                 × (vec_capacity result ≡ vec_capacity ends) }
         {
             let promise = Runs(Snapshot::of(&last));
@@ -146,7 +146,7 @@ fn fork_last<R: Threads + Wait + Sync, G: Gate + Sync>(
             { run_or_stop(rt, alloc, gate, links, flag, last) };
             match scope.spawn_with(promise, theirs) {
                 Ok(child) => {
-                    let mut ends = fork(rt, alloc, gate, links, starts, ends);
+                    let mut ends = fork(rt, alloc, gate, links, sites, ends);
                     ends.push_reserved(child.join(rt));
                     ends
                 }
@@ -154,7 +154,7 @@ fn fork_last<R: Threads + Wait + Sync, G: Gate + Sync>(
                     flag.store(true, Ordering::SeqCst);
                     let theirs = refused.value;
                     let end = theirs();
-                    let mut ends = fork(rt, alloc, gate, links, starts, ends);
+                    let mut ends = fork(rt, alloc, gate, links, sites, ends);
                     ends.push_reserved(end);
                     ends
                 }
