@@ -36,10 +36,10 @@ use Rattle.gf_serve.specs.declared.request.Request.{Request}
 use Rattle.gf_serve.specs.declared.request.Request.TheVariants as request
 use Rattle.gf_serve.specs.declared.request.TakeText.{TakeText}
 use Rattle.gf_serve.specs.declared.asking.Task.{Task}
-use Rattle.gf_serve.specs.declared.run.Frame.{Frame}
+use Rattle.gf_serve.specs.declared.run.RawRequest.{RawRequest}
 use Rattle.gf_serve.specs.ReplyTexts.{IsReplyText, refused_text}
 use Rattle.gf_serve.specs.Serves.{IsAnswered, IsRequest}
-use Rattle.gf_serve.specs.ServingSteps.{AnswersFrame}
+use Rattle.gf_serve.specs.ServingSteps.{AnswersRawRequest}
 use Rattle.gf_serve.specs.Serving.{Answers, AnswersNext, RefusesLines, RefusesNamed, RefusesTake}
 use Rattle.gf_serve.specs.Serving.{TakesLines}
 
@@ -118,14 +118,14 @@ taken_next known t answer new x y d takes is =
     }
 
 -- a reply to what is asked for answers the request that came
-pub asked_answered : {E : Type 0} (known : List Op) (frame : Frame) (asks : Task)
+pub asked_answered : {E : Type 0} (known : List Op) (raw : RawRequest) (asks : Task)
     (request : Request) (reply : Reply) (r : Result (Vec ℕ Global) E) (text : Vec ℕ Global)
-    (y : ReplicaState) → frame.asks ≡ Some asks → IsRequest asks frame.body.items request
+    (y : ReplicaState) → raw.asks ≡ Some asks → IsRequest asks raw.body.items request
     → AnswersNext known request reply y → r ≡ Ok text → IfOk r (λ t. IsReplyText reply t.items)
-    → AnswersFrame known frame text.items y
-asked_answered {E} known frame asks request reply r text y is fits a ok written = record {
+    → AnswersRawRequest known raw text.items y
+asked_answered {E} known raw asks request reply r text y is fits a ok written = record {
   next = a.next;
-  answered = subst (λ (t : Option Task). IsAnswered known t frame.body.items text.items a.next)
+  answered = subst (λ (t : Option Task). IsAnswered known t raw.body.items text.items a.next)
       (sym is) (record {
         request = request;
         is_request = fits;
@@ -138,13 +138,13 @@ asked_answered {E} known frame asks request reply r text y is fits a ok written 
 }
 
 -- where no request is asked for, that is answered
-pub none_answered : {E : Type 0} (known : List Op) (frame : Frame) (r : Result (Vec ℕ Global) E)
-    (text : Vec ℕ Global) (x : ReplicaState) → frame.asks ≡ None → HasDelivered known x
+pub none_answered : {E : Type 0} (known : List Op) (raw : RawRequest) (r : Result (Vec ℕ Global) E)
+    (text : Vec ℕ Global) (x : ReplicaState) → raw.asks ≡ None → HasDelivered known x
     → r ≡ Ok text → IfOk r (λ t. t.items ≡ refused_text (codes "no such request"))
-    → AnswersFrame known frame text.items x
-none_answered {E} known frame r text x none d ok written = record {
+    → AnswersRawRequest known raw text.items x
+none_answered {E} known raw r text x none d ok written = record {
   next = known;
-  answered = subst (λ (t : Option Task). IsAnswered known t frame.body.items text.items known)
+  answered = subst (λ (t : Option Task). IsAnswered known t raw.body.items text.items known)
       (sym none) (
         subst (λ (q : Result (Vec ℕ Global) E).
             IfOk q (λ t. t.items ≡ refused_text (codes "no such request"))) ok written,

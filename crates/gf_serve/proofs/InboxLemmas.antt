@@ -10,7 +10,7 @@ use Rattle.std.proofs.lemmas.List.{get_or-take, length-take-le, take-take, take_
 use Rattle.std.proofs.lemmas.List.Quantifiers.{position-Some}
 use Rattle.std.proofs.lemmas.List.Sums.{position_or_len_is}
 use Rattle.gf_streams.specs.TextLines.{is_line_end}
-use Rattle.gf_serve.specs.Frames.{IsLine}
+use Rattle.gf_serve.specs.RequestLines.{IsLine}
 use Rattle.gf_serve.specs.declared.inbox.TheConstants.{MOST_LINE_BYTES}
 
 -- none that passes stands before the first one

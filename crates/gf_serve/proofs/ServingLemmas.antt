@@ -12,13 +12,13 @@ use Rattle.gf_ops.specs.declared.op.Op.{Op}
 use Rattle.gf_replay.specs.Behind.{HasDelivered}
 use Rattle.gf_replay.proofs.ReadingLemmas.{none_delivered}
 use Rattle.gf_site.specs.ReplicaState.{ReplicaState, new_replica}
-use Rattle.gf_serve.specs.declared.run.Frame.{Frame}
-use Rattle.gf_serve.specs.Frames.{IsLine}
+use Rattle.gf_serve.specs.declared.run.RawRequest.{RawRequest}
+use Rattle.gf_serve.specs.RequestLines.{IsLine}
 use Rattle.gf_serve.specs.ReplyTexts.{refused_text}
 use Rattle.gf_serve.specs.Serves.{AnswersAll, AnswersFirst, Tells}
-use Rattle.gf_serve.specs.ServingSteps.{AnswersFrame, HasServedSome}
+use Rattle.gf_serve.specs.ServingSteps.{AnswersRawRequest, HasServedSome}
 use Rattle.gf_serve.specs.Serves.{Serves, answered, begun}
-use Rattle.gf_serve.specs.ServingSteps.{TakesFrame}
+use Rattle.gf_serve.specs.ServingSteps.{TakesRawRequest}
 
 appends_none : (old : Option (List ℕ)) → Appends old old []
 appends_none None = tt
@@ -41,21 +41,21 @@ consumes_more (Some o) (Some m) (Some n) xs ys a b =
     a ∙ (ap (λ l. xs ++ l) b ∙ sym (append_assoc xs ys n))
 
 -- a line that came, and the body behind it, are a request
-pub frame_taken : (old mid new : Option (List ℕ)) (line text : List ℕ) (n : ℕ) (frame : Frame)
-    → IsLine line → text ≡ line → Tells text frame.asks n → length frame.body.items ≡ n
-    → Consumes old mid (line ++ 10 ∷ []) → Consumes mid new frame.body.items
-    → TakesFrame old new frame
-frame_taken old mid new line text n frame is same tells count front behind = record {
-  bytes = line ++ 10 ∷ frame.body.items;
-  is_frame = record {
+pub raw_taken : (old mid new : Option (List ℕ)) (line text : List ℕ) (n : ℕ) (raw : RawRequest)
+    → IsLine line → text ≡ line → Tells text raw.asks n → length raw.body.items ≡ n
+    → Consumes old mid (line ++ 10 ∷ []) → Consumes mid new raw.body.items
+    → TakesRawRequest old new raw
+raw_taken old mid new line text n raw is same tells count front behind = record {
+  bytes = line ++ 10 ∷ raw.body.items;
+  is_raw = record {
     line = line;
     is_line = is;
-    tells = subst (λ m. Tells line frame.asks m) (sym count)
-        (subst (λ t. Tells t frame.asks n) same tells);
+    tells = subst (λ m. Tells line raw.asks m) (sym count)
+        (subst (λ t. Tells t raw.asks n) same tells);
     is = refl;
   };
-  takes = subst (λ l. Consumes old new l) (append_assoc line (10 ∷ []) frame.body.items)
-      (consumes_more old mid new (line ++ 10 ∷ []) frame.body.items front behind);
+  takes = subst (λ l. Consumes old new l) (append_assoc line (10 ∷ []) raw.body.items)
+      (consumes_more old mid new (line ++ 10 ∷ []) raw.body.items front behind);
 }
 
 -- before the first request nothing is answered
@@ -72,21 +72,21 @@ served_none (Some all) taken x new = record {
 
 -- one more request is answered
 pub served_more : (all left behind old mid new : Option (List ℕ)) (x y : ReplicaState)
-    (frame : Frame) (text : List ℕ) → HasServedSome all left old mid x
-    → TakesFrame left behind frame
-    → ((known : List Op) → HasDelivered known x → AnswersFrame known frame text y)
+    (raw : RawRequest) (text : List ℕ) → HasServedSome all left old mid x
+    → TakesRawRequest left behind raw
+    → ((known : List Op) → HasDelivered known x → AnswersRawRequest known raw text y)
     → Appends mid new text → HasServedSome all behind old new y
-served_more None left behind old mid new x y frame text h takes answers grows = tt
-served_more (Some all) None behind old mid new x y frame text h takes answers grows = absurd h
-served_more (Some all) (Some rest) None old mid new x y frame text h takes answers grows =
+served_more None left behind old mid new x y raw text h takes answers grows = tt
+served_more (Some all) None behind old mid new x y raw text h takes answers grows = absurd h
+served_more (Some all) (Some rest) None old mid new x y raw text h takes answers grows =
     absurd takes.takes
-served_more (Some all) (Some rest) (Some others) old mid new x y frame text h takes answers grows =
+served_more (Some all) (Some rest) (Some others) old mid new x y raw text h takes answers grows =
     let a = answers h.known h.delivered in
     record {
       out = h.out ++ text;
       known = a.next;
-      served = answered takes.bytes frame.asks frame.body.items text a.next
-          (subst (Serves all h.out h.known) takes.takes h.served) takes.is_frame a.answered;
+      served = answered takes.bytes raw.asks raw.body.items text a.next
+          (subst (Serves all h.out h.known) takes.takes h.served) takes.is_raw a.answered;
       delivered = a.delivered;
       written = appends_more old mid new h.out text h.written grows;
     }
@@ -123,15 +123,15 @@ served_first (Some all) (Some rest) old new x h = record {
 
 -- of the next answer a prefix may be written
 pub served_part : (all left behind old mid new : Option (List ℕ)) (x y : ReplicaState)
-    (frame : Frame) (text : List ℕ) → HasServedSome all left old mid x
-    → TakesFrame left behind frame
-    → ((known : List Op) → HasDelivered known x → AnswersFrame known frame text y)
+    (raw : RawRequest) (text : List ℕ) → HasServedSome all left old mid x
+    → TakesRawRequest left behind raw
+    → ((known : List Op) → HasDelivered known x → AnswersRawRequest known raw text y)
     → AppendsPrefix mid new text → IfSome all (λ bytes. AnswersFirst bytes old new)
-served_part None left behind old mid new x y frame text h takes answers part = tt
-served_part (Some all) None behind old mid new x y frame text h takes answers part = absurd h
-served_part (Some all) (Some rest) None old mid new x y frame text h takes answers part =
+served_part None left behind old mid new x y raw text h takes answers part = tt
+served_part (Some all) None behind old mid new x y raw text h takes answers part = absurd h
+served_part (Some all) (Some rest) None old mid new x y raw text h takes answers part =
     absurd takes.takes
-served_part (Some all) (Some rest) (Some others) old mid new x y frame text h takes answers
+served_part (Some all) (Some rest) (Some others) old mid new x y raw text h takes answers
     (n, within, grows) =
     let a = answers h.known h.delivered in
     record {
@@ -144,9 +144,9 @@ served_part (Some all) (Some rest) (Some others) old mid new x y frame text h ta
         bytes = takes.bytes;
         behind = others;
         begins = takes.takes;
-        asks = frame.asks;
-        body = frame.body.items;
-        frame = takes.is_frame;
+        asks = raw.asks;
+        body = raw.body.items;
+        raw = takes.is_raw;
         next = a.next;
         answered = a.answered;
       }));
@@ -226,11 +226,11 @@ module _ {A E : Type 0} (all left old mid : Option (List ℕ)) (x : ReplicaState
   first_so_far (Err e) = served_first all left old mid x h
 
   -- of the next answer a prefix was written
-  pub first_in_part : (behind new : Option (List ℕ)) (y : ReplicaState) (frame : Frame)
-      (text : List ℕ) → TakesFrame left behind frame
-      → ((known : List Op) → HasDelivered known x → AnswersFrame known frame text y)
+  pub first_in_part : (behind new : Option (List ℕ)) (y : ReplicaState) (raw : RawRequest)
+      (text : List ℕ) → TakesRawRequest left behind raw
+      → ((known : List Op) → HasDelivered known x → AnswersRawRequest known raw text y)
       → AppendsPrefix mid new text → (r : Result A E)
       → OnErr r (IfSome all (λ bytes. AnswersFirst bytes old new))
-  first_in_part behind new y frame text takes answers part (Ok v) = tt
-  first_in_part behind new y frame text takes answers part (Err e) =
-      served_part all left behind old mid new x y frame text h takes answers part
+  first_in_part behind new y raw text takes answers part (Ok v) = tt
+  first_in_part behind new y raw text takes answers part (Err e) =
+      served_part all left behind old mid new x y raw text h takes answers part

@@ -1,6 +1,6 @@
 pub mod Serving
 pub mod Requests
 pub mod ReplyTexts
-pub mod Frames
+pub mod RequestLines
 pub mod Serves
 pub mod ServingSteps

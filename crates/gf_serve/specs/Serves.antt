@@ -9,7 +9,7 @@ use Rattle.gf_serve.specs.declared.asking.Task.TheVariants as ask
 use Rattle.gf_serve.specs.declared.reply.Reply.{Reply}
 use Rattle.gf_serve.specs.declared.request.Request.{Request}
 use Rattle.gf_serve.specs.declared.request.Request.TheVariants as request
-use Rattle.gf_serve.specs.Frames.{IsLine}
+use Rattle.gf_serve.specs.RequestLines.{IsLine}
 use Rattle.gf_serve.specs.ReplyTexts.{IsReplyText, refused_text}
 use Rattle.gf_serve.specs.Requests.{asked, body_bytes, json}
 use Rattle.gf_serve.specs.Serving.{Answers}
@@ -22,7 +22,7 @@ pub record Tells (line : List ℕ) (asks : Option Task) (n : ℕ) : Type 0 where
   pub asks_is : asks ≡ asked value
 
 -- the bytes are a line, its end and a body of as many bytes as the line says
-pub record IsFrame (bytes : List ℕ) (asks : Option Task) (body : List ℕ) : Type 0 where
+pub record IsRawRequest (bytes : List ℕ) (asks : Option Task) (body : List ℕ) : Type 0 where
   pub line : List ℕ
   pub is_line : IsLine line
   pub tells : Tells line asks (length body)
@@ -57,7 +57,7 @@ pub data Serves (all : List ℕ) : List ℕ → List Op → List ℕ → Type 0 
   begun : Serves all [] [] all
   answered : {out : List ℕ} {known : List Op} {rest : List ℕ} (bytes : List ℕ) (asks : Option Task)
       (body text : List ℕ) (next : List Op) → Serves all out known (bytes ++ rest)
-      → IsFrame bytes asks body → IsAnswered known asks body text next
+      → IsRawRequest bytes asks body → IsAnswered known asks body text next
       → Serves all (out ++ text) next rest
 
 -- all requests of the input are answered, and known bytes grow from old to new by the answers
@@ -74,7 +74,7 @@ pub record AnswersOne (known : List Op) (rest text : List ℕ) : Type 0 where
   pub begins : rest ≡ bytes ++ behind
   pub asks : Option Task
   pub body : List ℕ
-  pub frame : IsFrame bytes asks body
+  pub raw : IsRawRequest bytes asks body
   pub next : List Op
   pub answered : IsAnswered known asks body text next
 

@@ -7,8 +7,8 @@ use Rattle.gf_site.specs.ReplicaState.{ReplicaState}
 use Rattle.gf_kept.specs.Keeping.{Keeps}
 use Rattle.gf_status.specs.KeptStatuses.{AreKept}
 use Rattle.gf_serve.specs.declared.kept.Kept.{Kept}
-use Rattle.gf_serve.specs.declared.run.Frame.{Frame}
-use Rattle.gf_serve.specs.Serves.{IsAnswered, IsFrame, Serves}
+use Rattle.gf_serve.specs.declared.run.RawRequest.{RawRequest}
+use Rattle.gf_serve.specs.Serves.{IsAnswered, IsRawRequest, Serves}
 
 -- what is kept are visible versions and statuses of objects of h
 pub record KeepsBoth (h : List Op) (kept : Kept) : Type 0 where
@@ -16,16 +16,16 @@ pub record KeepsBoth (h : List Op) (kept : Kept) : Type 0 where
   pub statuses : AreKept h kept.statuses
 
 -- a service that has this replica answers a request with this text
-pub record AnswersFrame (known : List Op) (frame : Frame) (text : List ℕ) (x : ReplicaState)
+pub record AnswersRawRequest (known : List Op) (raw : RawRequest) (text : List ℕ) (x : ReplicaState)
     : Type 0 where
   pub next : List Op
-  pub answered : IsAnswered known frame.asks frame.body.items text next
+  pub answered : IsAnswered known raw.asks raw.body.items text next
   pub delivered : HasDelivered next x
 
 -- a request came of the known bytes between old and new
-pub record TakesFrame (old new : Option (List ℕ)) (frame : Frame) : Type 0 where
+pub record TakesRawRequest (old new : Option (List ℕ)) (raw : RawRequest) : Type 0 where
   pub bytes : List ℕ
-  pub is_frame : IsFrame bytes frame.asks frame.body.items
+  pub is_raw : IsRawRequest bytes raw.asks raw.body.items
   pub takes : Consumes old new bytes
 
 -- the requests before the rest were answered, by which known bytes grew from old to new, and the

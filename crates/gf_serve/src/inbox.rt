@@ -5,7 +5,7 @@ ghost use Rattle.std.specs.Prelude.{drop, false, length, take, true};
 ghost use Rattle.std.specs.Io.KnownBytes.{Consumes, IsAtEnd, Keeps, prepend_known};
 ghost use Rattle.std.specs.List.{position};
 ghost use Rattle.gf_streams.specs.TextLines.{is_line_end};
-ghost use Rattle.gf_serve.specs.Frames.{IsLine};
+ghost use Rattle.gf_serve.specs.RequestLines.{IsLine};
 
 use crate::ServeError;
 use gf_streams::Source;

@@ -9,9 +9,9 @@ ghost use Rattle.gf_replay.specs.Behind.{HasDelivered};
 ghost use Rattle.gf_serve.specs.ReplyTexts.{refused_text};
 ghost use Rattle.gf_serve.specs.Requests.{HasSite};
 ghost use Rattle.gf_serve.specs.Serves.{AnswersAll, AnswersFirst, IsRequest};
-ghost use Rattle.gf_serve.specs.ServingSteps.{AnswersFrame};
+ghost use Rattle.gf_serve.specs.ServingSteps.{AnswersRawRequest};
 ghost use Rattle.gf_serve.specs.Serves.{Tells};
-ghost use Rattle.gf_serve.specs.ServingSteps.{TakesFrame};
+ghost use Rattle.gf_serve.specs.ServingSteps.{TakesRawRequest};
 
 use crate::asking::{Task, asked, body_bytes, json};
 use crate::inbox::{read_body, read_line};
@@ -25,7 +25,7 @@ use std::thread::Threads;
 
 /// A request as it came: what its line asks for, if that is a request, and its body.
 #[derive(Drop)]
-pub struct Frame {
+pub struct RawRequest {
     pub asks: Option<Task>,
     pub body: Vec<u8>,
 }
@@ -53,12 +53,12 @@ pub fn serve_run<T: Threads + Sync, R: Source, W: Sink>(
     let mut service = Service::new(alloc);
     let mut held = Vec::new(alloc);
     for _ in 0..u64::MAX {
-        let frame = match read_frame(alloc, source, &mut held) {
-            Ok(Some(frame)) => frame,
+        let raw = match read_raw_request(alloc, source, &mut held) {
+            Ok(Some(raw)) => raw,
             Ok(None) => return write(sink, b""),
             Err(fault) => return Err(refuse(alloc, sink, fault)),
         };
-        let text = answer(rt, alloc, &mut service, frame, workers)?;
+        let text = answer(rt, alloc, &mut service, raw, workers)?;
         write(sink, &text)?;
     }
     Err(ServeError::TooMany)
@@ -90,15 +90,15 @@ fn write<W: Sink>(sink: &mut W, bytes: &[u8]) -> Result<(), ServeError>
 }
 
 /// The next request. None at the end of the input.
-fn read_frame<R: Source>(
+fn read_raw_request<R: Source>(
     alloc: Global,
     source: &mut R,
     held: &mut Vec<u8>,
-) -> Result<Option<Frame>, ServeError>
-    ensures frame { IfOk result (λ found. IfSome found (λ frame.
-        TakesFrame (prepend_known held.old.items (R.left source.old))
-        (prepend_known held.new.items (R.left source.new)) frame)) }
-    ensures in_range { IfOk result (λ found. IfSome found (λ frame. IfSome frame.asks HasSite)) }
+) -> Result<Option<RawRequest>, ServeError>
+    ensures raw { IfOk result (λ found. IfSome found (λ raw.
+        TakesRawRequest (prepend_known held.old.items (R.left source.old))
+        (prepend_known held.new.items (R.left source.new)) raw)) }
+    ensures in_range { IfOk result (λ found. IfSome found (λ raw. IfSome raw.asks HasSite)) }
     ensures end { IfOk result (λ found. IfNone found
         (IsAtEnd (prepend_known held.old.items (R.left source.old)))) }
 {
@@ -107,7 +107,7 @@ fn read_frame<R: Source>(
     };
     let (asks, count) = told(alloc, &line)?;
     let body = read_body(alloc, source, held, count as usize)?;
-    Ok(Some(Frame { asks, body }))
+    Ok(Some(RawRequest { asks, body }))
 }
 
 /// What a line asks for, and how many bytes stand behind it.
@@ -130,15 +130,15 @@ fn answer<T: Threads + Sync>(
     rt: &T,
     alloc: Global,
     service: &mut Service,
-    frame: Frame,
+    raw: RawRequest,
     workers: u8,
 ) -> Result<Vec<u8>, ServeError>
     requires workers { (1 ≤ workers) × (workers ≤ 16) }
-    requires in_range { IfSome frame.asks HasSite }
+    requires in_range { IfSome raw.asks HasSite }
     ensures { (known : List Op) → HasDelivered known service.old
-        → IfOk result (λ text. AnswersFrame known frame text.items service.new) }
+        → IfOk result (λ text. AnswersRawRequest known raw text.items service.new) }
 {
-    let Frame { asks, body } = frame;
+    let RawRequest { asks, body } = raw;
     let text = match asks {
         Some(asks) => {
             let reply = service.answer(rt, request(asks, body), workers);

@@ -25,18 +25,18 @@ pub(crate) fn reply_text(alloc: Global, reply: &Reply) -> Result<Vec<u8>, OutOfM
     ensures { IfOk result (λ text. IsReplyText reply.now text.items) }
 {
     match reply {
-        Reply::Lines(came) => framed(alloc, &arrival_data(alloc, *came)?, b""),
+        Reply::Lines(came) => with_body(alloc, &arrival_data(alloc, *came)?, b""),
         Reply::Taken(answer) => {
             let data = taken_data(alloc, answer.text.len(), &answer.value)?;
-            framed(alloc, &data, &answer.text)
+            with_body(alloc, &data, &answer.text)
         }
         Reply::Named(answer) => {
             let data = named_data(alloc, answer.text.len(), &answer.value)?;
-            framed(alloc, &data, &answer.text)
+            with_body(alloc, &data, &answer.text)
         }
         Reply::Status(answer) => {
             let data = state_data(alloc, answer.text.len(), answer.value)?;
-            framed(alloc, &data, &answer.text)
+            with_body(alloc, &data, &answer.text)
         }
         Reply::Refused(why) => {
             let words = format!(in alloc; "{why}")?;
@@ -46,7 +46,7 @@ pub(crate) fn reply_text(alloc: Global, reply: &Reply) -> Result<Vec<u8>, OutOfM
 }
 
 /// A line of JSON with a body behind it.
-fn framed(alloc: Global, line: &Value, body: &[u8]) -> Result<Vec<u8>, OutOfMemory>
+fn with_body(alloc: Global, line: &Value, body: &[u8]) -> Result<Vec<u8>, OutOfMemory>
     requires { has_float (view line.now) ≡ false }
     ensures { IfOk result (λ text. text.items ≡ json_line (view line.now) ++ body.now) }
 {
@@ -60,7 +60,7 @@ fn framed(alloc: Global, line: &Value, body: &[u8]) -> Result<Vec<u8>, OutOfMemo
 pub(crate) fn refused_text(alloc: Global, words: &[u8]) -> Result<Vec<u8>, OutOfMemory>
     ensures { IfOk result (λ text. text.items ≡ refused_text words.now) }
 {
-    framed(alloc, &refused_data(alloc, words.len())?, words)
+    with_body(alloc, &refused_data(alloc, words.len())?, words)
 }
 
 fn refused_data(alloc: Global, bytes: usize) -> Result<Value, AllocError>

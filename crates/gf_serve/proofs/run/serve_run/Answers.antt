@@ -51,9 +51,9 @@ returns-in_err-write-clause-first g c =
     (prepend_known c.loop.held.items (g.R.Source.left c.loop.source))
     (g.W.Sink.taken c.args.sink.now) (g.W.Sink.taken c.loop.sink) c.loop.service
     c.loop.invariant
-    (prepend_known c.read_frame.new.held.items (g.R.Source.left c.read_frame.new.source))
-    (g.W.Sink.taken c.write-in-loop.new.sink) c.answer.new.service c.in-Ok-Some.frame
-    c.in_ok-text.text.items (rw c.in-Ok-Some.field-0-is at c.in-Ok-Some.ensures.frame)
+    (prepend_known c.read_raw_request.new.held.items (g.R.Source.left c.read_raw_request.new.source))
+    (g.W.Sink.taken c.write-in-loop.new.sink) c.answer.new.service c.in-Ok-Some.raw
+    c.in_ok-text.text.items (rw c.in-Ok-Some.field-0-is at c.in-Ok-Some.ensures.raw)
     c.in_ok-text.ensures
     (subst (λ (text : List ℕ).
     AppendsPrefix (g.W.Sink.taken c.loop.sink) (g.W.Sink.taken c.write-in-loop.new.sink) text)
@@ -64,11 +64,11 @@ pub loop-preserved : goal.loop-preserved
 loop-preserved g c =
     served_more (g.R.Source.left c.args.source.now)
     (prepend_known c.loop.held.items (g.R.Source.left c.loop.source))
-    (prepend_known c.read_frame.new.held.items (g.R.Source.left c.read_frame.new.source))
+    (prepend_known c.read_raw_request.new.held.items (g.R.Source.left c.read_raw_request.new.source))
     (g.W.Sink.taken c.args.sink.now) (g.W.Sink.taken c.loop.sink)
     (g.W.Sink.taken c.write-in-loop.new.sink) c.loop.service c.answer.new.service
-    c.in-Ok-Some.frame c.in_ok-text.text.items c.loop.invariant
-    (rw c.in-Ok-Some.field-0-is at c.in-Ok-Some.ensures.frame) c.in_ok-text.ensures
+    c.in-Ok-Some.raw c.in_ok-text.text.items c.loop.invariant
+    (rw c.in-Ok-Some.field-0-is at c.in-Ok-Some.ensures.raw) c.in_ok-text.ensures
     (subst (λ (text : List ℕ).
     Appends (g.W.Sink.taken c.loop.sink) (g.W.Sink.taken c.write-in-loop.new.sink) text)
     c.deref.ensures.value c.in_ok-write.ensures.ok)

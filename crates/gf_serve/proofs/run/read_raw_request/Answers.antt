@@ -1,10 +1,10 @@
 use Rattle.std.specs.Io.KnownBytes.{prepend_known}
-use Rattle.gf_serve.proofs.ServingLemmas.{frame_taken}
-use Rattle.gf_serve.proofs.run.read_frame.Goals as goal
+use Rattle.gf_serve.proofs.ServingLemmas.{raw_taken}
+use Rattle.gf_serve.proofs.run.read_raw_request.Goals as goal
 
-pub returns-clause-frame : goal.returns-clause-frame
-returns-clause-frame g c =
-    frame_taken (prepend_known c.args.held.now.items (g.R.Source.left c.args.source.now))
+pub returns-clause-raw : goal.returns-clause-raw
+returns-clause-raw g c =
+    raw_taken (prepend_known c.args.held.now.items (g.R.Source.left c.args.source.now))
     (prepend_known c.read_line.new.held.items (g.R.Source.left c.read_line.new.source))
     (prepend_known c.read_body.new.held.items (g.R.Source.left c.read_body.new.source))
     c.in-Some.line.items c.deref.result.now c.in_ok-asks.count
