@@ -1,10 +1,11 @@
 //! What a site makes behind the base of a drawing.
 
-ghost use Rattle.std.specs.Prelude.{◌≡◌, ◌≤◌, IfErr, IfNone, IfOk, IfSome};
+ghost use Rattle.std.specs.Prelude.{◌≡◌, ◌≤◌, [], IfErr, IfNone, IfOk, IfSome, unwrap_or};
 ghost use Rattle.gf_ops.specs.OperationOrder.{count_of};
 ghost use Rattle.gf_fig_named.specs.NamedFigures.{AreNamed};
 ghost use Rattle.gf_take_run.specs.LeavingSteps.{AreNamesAt};
 ghost use Rattle.gf_take_run.specs.TakenText.{DenotesDrawing};
+ghost use Rattle.gf_take_run.specs.declared.making.MadeFrom.{MadeFrom};
 ghost use Rattle.gf_take_run.specs.TakeSteps.{AreListed, IsBeyondMost, MakesFrom, MakesOther};
 ghost use Rattle.gf_take_run.specs.TakeSteps.{RefusesBase, RefusesPlan};
 
@@ -80,39 +81,67 @@ fn make_other(
     ensures refused { IfErr result
         (RefusesPlan base.number base.ops fig.now drawn.now.drawing) }
 {
-    let Shown { versions, thin } = shown;
-    let names = names_of(alloc, base.history(), &versions.items)?;
-    let places = Places::of(alloc, &versions.items)?;
     let mut making = Making {
         site: base,
         ops: Vec::new(alloc),
     };
-    let last = make_planned(alloc, &mut making, fig, &versions.items, drawn)?;
-    if !are_on_shown(
-        alloc,
-        fig,
-        &drawn.names,
-        &making.ops,
-        &versions.items,
-        &places,
-    )? {
-        return Err(DrawingError::Differs);
-    }
-    if !leave_standing(alloc, &versions.items, &places, &names, drawn, &making.ops)? {
-        return Err(DrawingError::Differs);
-    }
-    let shown = last.unwrap_or(versions);
-    if !shows(alloc, &shown.items, &drawn.drawing)? {
-        return Err(DrawingError::Differs);
-    }
-    making.site.recall_history();
+    let last = make_shown(alloc, &mut making, &shown.versions, fig, drawn)?;
     let Making { site, ops } = making;
     Ok(MadeFrom {
         site,
         ops,
-        shown,
-        thin,
+        shown: last.unwrap_or(shown.versions),
+        thin: shown.thin,
     })
+}
+
+/// Makes what becomes a drawing, behind a base that shows these versions. Answers what the site
+/// then shows, or None where nothing was made.
+fn make_shown(
+    alloc: Global,
+    making: &mut Making,
+    shown: &Ranked<AnyShape>,
+    fig: &[u8],
+    drawn: &ReadDrawing,
+) -> Result<Option<Ranked<AnyShape>>, DrawingError>
+    requires none { making.old.ops.items ≡ [] }
+    requires listed { AreListed making.old.site.ops shown.now }
+    requires drawn { DenotesDrawing fig.now drawn.now.drawing drawn.now.knew }
+    requires named { AreNamed fig.now drawn.now.drawing drawn.now.names.items }
+    requires places { AreNamesAt drawn.now.names.items drawn.now.places.entries }
+    ensures ok { IfOk result (λ last. (made : MadeFrom) → made.site ≡ making.new.site
+        → made.ops.items ≡ making.new.ops.items → made.shown ≡ unwrap_or last shown.now
+        → MakesOther making.old.site.number making.old.site.ops fig.now drawn.now.drawing made) }
+    ensures refused { IfErr result
+        (RefusesPlan making.old.site.number making.old.site.ops fig.now drawn.now.drawing) }
+{
+    let names = names_of(alloc, making.site.history(), &shown.items)?;
+    let places = Places::of(alloc, &shown.items)?;
+    let last = make_planned(alloc, making, fig, &shown.items, drawn)?;
+    if !are_on_shown(alloc, fig, &drawn.names, &making.ops, &shown.items, &places)? {
+        return Err(DrawingError::Differs);
+    }
+    if !leave_standing(alloc, &shown.items, &places, &names, drawn, &making.ops)? {
+        return Err(DrawingError::Differs);
+    }
+    if !shows(alloc, &shown_last(&last, shown).items, &drawn.drawing)? {
+        return Err(DrawingError::Differs);
+    }
+    making.site.recall_history();
+    Ok(last)
+}
+
+/// What was listed last, or at first.
+fn shown_last<'a>(
+    last: &'a Option<Ranked<AnyShape>>,
+    first: &'a Ranked<AnyShape>,
+) -> &'a Ranked<AnyShape>
+    ensures { result.now ≡ unwrap_or last.now first.now }
+{
+    match last {
+        Some(last) => last,
+        None => first,
+    }
 }
 
 /// The last operation of a site, where there are more than so many.

@@ -14,7 +14,7 @@ use Rattle.gf_fig_read.proofs.LawfulLemmas.{lawful_read}
 use Rattle.gf_take_run.specs.ChangedObjects.{MayChange}
 use Rattle.gf_take_run.specs.LeftObjects.{LeavesStanding}
 use Rattle.gf_take_run.proofs.MakingLemmas.{listed_last, makes_other, making_first}
-use Rattle.gf_take_run.proofs.making.make_other.Goals as goal
+use Rattle.gf_take_run.proofs.making.make_shown.Goals as goal
 
 pub leave_standing-requires-clause-lawful : goal.leave_standing-requires-clause-lawful
 leave_standing-requires-clause-lawful c =
@@ -41,21 +41,25 @@ pub returns-in_err-last-clause-refused : goal.returns-in_err-last-clause-refused
 returns-in_err-last-clause-refused c =
     let p = err_from_is_err_and c.from_residual-in_err-last.result
     c.from_residual-in_err-last.ensures.1 in
-    rw (p.1, p.2) (c.in_err-last.ensures.refused c.args.base.number c.args.base.ops
-    (making_first c.args.base.number c.args.base.ops _ refl refl c.new.ensures.items))
+    let s = c.args.making.now.site.number in
+    let b = c.args.making.now.site.ops in
+    rw (p.1, p.2) (c.in_err-last.ensures.refused s b (making_first s b _ refl refl c.requires.none))
 
 pub returns-clause-ok : goal.returns-clause-ok
-returns-clause-ok c =
-    let s = c.args.base.number in
-    let b = c.args.base.ops in
+returns-clause-ok c made site ops shown =
+    let s = c.args.making.now.site.number in
+    let b = c.args.making.now.site.ops in
     let fig = c.args.fig.now in
     let d = c.args.drawn.now.drawing in
     let m = c.make_planned.new.making in
+    let last = c.in_ok-last.last in
     let names = c.in_ok-names.names.items in
-    let first = making_first s b _ refl refl c.new.ensures.items in
-    let listed = listed_last _ m c.in_ok-last.last c.args.shown.versions c.unwrap_or-shown.result
-    c.in_ok-last.ensures.listed c.requires.listed c.unwrap_or-shown.ensures in
-    let now = subst (AreRanked m.site.ops) (sym c.deref-10.ensures.value) listed.ranked in
+    let first = making_first s b _ refl refl c.requires.none in
+    let listed = listed_last _ m last c.args.shown.now made.shown c.in_ok-last.ensures.listed
+    c.requires.listed shown in
+    let now_listed = listed_last _ m last c.args.shown.now c.shown_last.result.now
+    c.in_ok-last.ensures.listed c.requires.listed c.shown_last.ensures in
+    let now = subst (AreRanked m.site.ops) (sym c.deref-10.ensures.value) now_listed.ranked in
     let valid = c.recall_history.ensures.valid in
     let on = subst (AreRanked b) (sym c.deref-6.ensures.value) c.requires.listed.ranked in
     let may = subst (All (λ (a : Op). MayChange b fig a.change)) c.deref-5.ensures.value
@@ -70,7 +74,7 @@ returns-clause-ok c =
     c.history.ensures.ops c.in_ok-names.ensures)) in
     let standing = subst (All (λ (a : Op). LeavesStanding b fig d a.change)) c.deref-9.ensures.value
     (c.in_ok-leave_standing.ensures b fig beside named c.requires.named c.if-not-branch-2.false) in
-    makes_other s b fig d m _ (c.in_ok-last.ensures.made s b first) refl refl
+    makes_other s b fig d m made (c.in_ok-last.ensures.made s b first) site ops
     c.recall_history.ensures.accepted valid
     (c.in_ok-shows.ensures.shows m.site.ops valid now c.if-not-branch-3.false)
     (c.in_ok-shows.ensures.paints m.site.ops valid now c.if-not-branch-3.false) may standing listed
