@@ -148,14 +148,19 @@ class Page(Guarded, tornado.websocket.WebSocketHandler):
     async def on_message(self, message):
         """Answers one message before the next one is read."""
         if not self.pace.allows():
-            return self.close(1008, 'too many messages')
+            return self.end(1008, 'too many messages')
         try:
             asked = json.loads(message)
             answer = await self.answer(asked)
         except (ValueError, TypeError, KeyError, AttributeError):
-            return self.close(1003, 'no such message')
+            return self.end(1003, 'no such message')
         if answer:
             self.tell(answer)
+
+    def end(self, code, why):
+        """Closes the page, which counts no more from then on, also while its connection ends."""
+        self.drawing.pages.discard(self)
+        self.close(code, why)
 
     async def answer(self, asked):
         if 'page' in asked:
