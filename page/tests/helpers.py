@@ -40,9 +40,9 @@ def wait(until, seconds=LONG, what='nothing came'):
 
 
 def free_port():
-    """One that no call from here gets as its own while a server is down."""
+    """One that no call from here gets as its own while a server is down. A browser refuses 10080."""
     while True:
-        port = random.randint(10000, 30000)
+        port = random.randint(10081, 30000)
         with socket.socket() as probe:
             try:
                 probe.bind(('127.0.0.1', port))

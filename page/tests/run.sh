@@ -16,12 +16,22 @@ can_test() {
         "$python" -c 'import tornado, selenium' 2> /dev/null
 }
 
+# Whether the tests of a file pass, at the latest when tried again, as a browser may be late; what failed first is shown.
+passes() {
+    local try
+    for try in first second; do
+        ! timeout --foreground 300 "$python" -W ignore "$1" > "$logs/$1" 2>&1 || return 0
+        [ "$try" = second ] || { cat "$logs/$1"; echo "page: $1 failed, and is tried again"; } >&2
+    done
+    return 1
+}
+
 # Runs the tests of files one after the other, and shows what they said where one failed.
 run() {
     local file began status=0
     for file; do
         began=$SECONDS
-        if timeout --foreground 300 "$python" -W ignore "$file" > "$logs/$file" 2>&1; then
+        if passes "$file"; then
             echo "page: $file: $(sed -n 's/^Ran \([0-9]* tests*\) in .*/\1/p' "$logs/$file"), $((SECONDS - began)) s$(
                 sed -n "s/.*skipped '\(.*\)'$/, skipped: \1/p" "$logs/$file")"
         else

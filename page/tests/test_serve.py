@@ -313,8 +313,8 @@ class Keeping(ServeTest):
         self.assertEqual('line 3: Field', (await client.take(drawing(box(0), box(500)), after=1))['refused'])
 
     async def test_bound_of_memory(self):
-        limits = pathlib.Path(f'/proc/{self.server.keeper()}/limits').read_text()
-        self.assertEqual(['4294967296'] * 2, limits.partition('Max address space')[2].split()[:2])
+        limits = pathlib.Path(f'/proc/{self.server.keeper()}/limits')  # of a process that may just begin
+        wait(lambda: limits.read_text().partition('Max address space')[2].split()[:2] == ['4294967296'] * 2)
 
     def test_no_answer(self):
         """A program that gives no answer is ended, and one that can't serve is told."""
