@@ -1,5 +1,6 @@
-# Installs figgroup, without a proof: bin/ has the proved program.
+# Tests and installs figgroup, without a proof: bin/ has the proved program.
 #
+#   make check                                    all tests that need no kit of Rattle; installs by apt-get what they take
 #   make install [PREFIX=/usr/local] [DESTDIR=]   the program, draw, the page, what draw uses, manual pages, completions,
 #                                                 the pages and examples
 #   make deb [TO=.]                               a Debian package of these, figgroup_VERSION_amd64.deb
@@ -8,12 +9,18 @@ PREFIX ?= /usr/local
 DESTDIR ?=
 TO ?= .
 at = $(DESTDIR)$(PREFIX)
-version = $(shell bin/figgroup --version | cut -d ' ' -f 2)+$(shell git log -1 --format=%cd.%h --date=format:%Y%m%d)
+number = $(shell bin/figgroup --version | cut -d ' ' -f 2)
+commit = $(shell git log -1 --format=%cd.%h --date=format:%Y%m%d)
+version = $(number)+$(commit)
 
 # Of a link to what the repository alone has, as sources, the words stay.
 unlinked = s/\[([^]]*)\]\((\.\.\/)?(bench|crates|tools)\/[^)]*\)/\1/g
 
-.PHONY: install deb
+.PHONY: check install deb
+
+check:
+	tests/tools.sh
+	tests/check.py
 
 install:
 	./prove --check
@@ -51,11 +58,10 @@ Description: figures drawn by a group, by a proved program
 endef
 
 export control
-deb: package := $(shell mktemp -d)
 deb:
-	$(MAKE) install DESTDIR=$(package) PREFIX=/usr
-	install -d $(package)/DEBIAN
-	printf '%s\n' "$$control" > $(package)/DEBIAN/control
-	chmod 755 $(package)
-	dpkg-deb --root-owner-group -b $(package) $(TO)/figgroup_$(version)_amd64.deb
-	rm -r $(package)
+	@git rev-parse -q --verify HEAD > /dev/null || \
+	    { echo "make deb: the version has the day and the commit of git: take git, and a clone" >&2; exit 1; }
+	package=$$(mktemp -d) && trap 'rm -rf "$$package"' EXIT && chmod 755 "$$package" && \
+	    $(MAKE) install DESTDIR="$$package" PREFIX=/usr && \
+	    install -d "$$package/DEBIAN" && printf '%s\n' "$$control" > "$$package/DEBIAN/control" && \
+	    dpkg-deb --root-owner-group -b "$$package" $(TO)/figgroup_$(version)_amd64.deb

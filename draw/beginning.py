@@ -15,10 +15,11 @@ from plain import make_plain
 from telling import Failure, fail, lines_of, say, write
 
 
-def word_site(number, name=None):
+def word_site(number: str, name: 'str | None' = None) -> None:
     """Notes the site of this copy, and the name of its designer."""
     if name is not None and not designers.is_name(name):
         fail(f'a name of a designer has at most {designers.MOST_SIGNS} letters, and no blank at its ends')
+    sharing.exclude('site', 'drawing.*')
     known = folder.site()
     if known not in (None, int(number)):
         fail(f'this copy is of site {known}, as the file site says')
@@ -28,7 +29,6 @@ def word_site(number, name=None):
             write(f'draw: {file} has operations: go on if they are yours')
         storing.put('site', f'{number}\n'.encode())
     open(file, 'ab').close()
-    sharing.exclude('site', 'drawing.*')
     if name is not None:
         with own.alone():
             naming.replace_lines('designers', [f'{number} {name}'])

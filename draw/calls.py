@@ -43,5 +43,6 @@ def figgroup(*words, read):
     return run('figgroup', *map(str, words), read=read)
 
 
-def git(*words):
-    return run('git', *words)
+def git(*words: str) -> tuple[int, bytes, bytes]:
+    """Git, which does not take this folder for a repository of its own: others may have committed one with a config."""
+    return run('git', '-c', 'safe.bareRepository=explicit', *words)

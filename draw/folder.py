@@ -5,6 +5,7 @@ from calls import figgroup
 from telling import Failure, fail, lines_of, quoted, say
 
 MOST_BYTES = 16 * 1024 * 1024  # which figgroup reads
+MOST_FILES = 64
 SHARED = ('names', 'designers')
 FILES = ('site', 'drawing.fig', 'drawing.last', 'drawing.word', *SHARED)
 
@@ -18,14 +19,21 @@ def site_files():
 
 
 def refuse_links():
-    """Under the names that draw reads and writes others may have committed links."""
+    """Under the names that draw reads and writes others may have committed links, or many files."""
     drawings = sorted(name for name in os.listdir('.') if name.startswith('drawing.'))
     for name in ['site', *drawings, *SHARED, *site_files()]:
         if os.path.islink(name):
             fail(f'{quoted(name)} is a link, which draw does not follow: rm takes it away')
+    refuse_many(site_files())
     for name in [*FILES, *site_files()]:
         if os.path.exists(name) and not os.path.isfile(name):
             fail(f'{quoted(name)} is no file: take it away')
+
+
+def refuse_many(names: list[str]) -> None:
+    if len(names) > MOST_FILES:
+        fail(f'{len(names)} files have names as site-1.jsonl, and draw reads at most {MOST_FILES}: '
+             'take away those that are not of site 1 to 8')
 
 
 def content(name, most=MOST_BYTES):
@@ -42,15 +50,19 @@ def whole(name):
     return text
 
 
-def lines():
+def lines() -> bytes:
     """All operation lines; the last one of a file may lack its end."""
+    return joined(map(content, site_files()))
+
+
+def joined(texts: 'map[bytes]') -> bytes:
+    """The lines of all texts; of too many, which figgroup refuses, a beginning."""
     found, length = [], 0
-    for name in site_files():
-        text = content(name)
+    for text in texts:
         found += [text, b'' if text.endswith(b'\n') or not text else b'\n']
         length += len(text)
         if length > MOST_BYTES:
-            break  # figgroup refuses so many
+            break
     return b''.join(found)
 
 

@@ -8,17 +8,22 @@ import ids
 import names
 import sharing
 from operations import ODD, Operation
-from telling import say, write
+from telling import Failure, say, write
 
 MOST_SIGNS = 60  # of a value
 
 
-def word_log(*words):
+def word_log(*words: str) -> None:
     """Odd lines are told, and take nothing from the others."""
     for line in explaining.of_files():
         say(line)
     found, known = [], names.Names()
     for name in folder.site_files():
+        try:
+            folder.whole(name)
+        except Failure as failure:
+            say(*failure.lines)
+            continue
         for line, who in sharing.blame(name):
             try:
                 found.append(Told(line, who, known))

@@ -30,7 +30,7 @@ class Operation:
         return self.id != other.id and self.past[other.id[0] - 1] >= other.id[1]
 
 
-ODD = (ValueError, TypeError, KeyError, AttributeError, RecursionError)
+ODD = (ValueError, TypeError, KeyError, IndexError, AttributeError, OverflowError, RecursionError)
 
 
 def pair(id):

@@ -36,7 +36,7 @@ class OwnFile:
         if not (self.text() or b'\n').endswith(b'\n'):
             fail(f'the last line of {self.name} has no end: if it is whole, echo >> {self.name}')
 
-    def lock(self):
+    def lock(self) -> None:
         if not os.path.isfile(self.name):
             fail(f'{self.name} is lost: fetch it, as by git checkout {self.name}')
         if not (os.access(self.name, os.W_OK) and os.access('.', os.W_OK)):
@@ -47,6 +47,8 @@ class OwnFile:
                 fail(f'another program has locked {self.name}')
             time.sleep(0.02)
         self.held = held
+        if os.path.exists(self.file.redo):
+            folder.whole(self.file.redo)
         try:
             self.file.finish_append(held)
         except OSError:

@@ -1,36 +1,36 @@
 """What others pushed comes, and what this copy made goes, by git."""
 import os
 
+import blocked
 import ids
+import incoming
+import names
 import own
 import settling
 import sharing
 import storing
 from calls import git
-from folder import MOST_BYTES, SHARED, is_site_file, lines, site, site_files
+from folder import SHARED, is_site_file, lines, site, site_files
 from telling import Failure, fail, lines_of, quoted, write
 
-OTHERS = ('was committed by others, and would overwrite yours, so nothing was pulled: '
-          'they type git rm --cached on it, commit and push')
+OTHERS = ('was committed by {author}, and would overwrite yours, so nothing was pulled: '
+          '{author} types git rm --cached {name}, commits and pushes')
 
 
-def commit_own():
+def commit_own() -> own.OwnFile:
     """Commits the own file, which begins with what was committed before, and what all share. Answers the file."""
     file = own.OwnFile()
-    if not sharing.in_git():
-        fail('this folder is in no work tree of git')
+    sharing.must_be_in_git()
     if not sharing.answer('branch', '--show-current'):
         fail('no branch of git is checked out here: git switch NAME')
     sharing.keep_committed(file.name)
-    sharing.merge_by_lines(*SHARED)
-    names = [file.name, *filter(os.path.exists, SHARED)]
+    shared = [name for name in SHARED if os.path.exists(name) and os.path.getsize(name) <= names.MOST_BYTES]
     try:
-        asked('add', '--', *names)
-        if git('diff', '--cached', '--quiet', '--', *names)[0]:
-            asked('commit', '-q', '-m', f'site {file.site}: up to {ids.name(file.last())}', '--', *names)
+        asked('add', '-f', '--', file.name, *shared)  # whatever .gitignore says
+        if git('diff', '--cached', '--quiet', '--', file.name, *shared)[0]:
+            asked('commit', '-q', '-m', f'site {file.site}: up to {ids.name(file.last())}', '--', file.name, *shared)
     finally:
         file.unlock()
-    stays_apart('HEAD', 'is committed here, and would overwrite that of others: git rm --cached it, and commit that')
     return file
 
 
@@ -40,17 +40,6 @@ def asked(*words):
     if status:
         raise Failure(*lines_of(wrote + said), f'draw: git {words[0]} failed, for the reason above')
     return wrote
-
-
-def stays_apart(tree, refusal):
-    """Refuses a commit with files that each copy has for itself, and site files that are none."""
-    for mode, size, name in sharing.listed(tree):
-        if name == 'site' or name.startswith('drawing.'):
-            fail(f'{quoted(name)} {refusal}')
-        if (is_site_file(name) or name in SHARED) and not mode.startswith('100'):
-            fail(f'{quoted(name)} was committed as a link or a folder: who did it types git rm')
-        if is_site_file(name) and size > MOST_BYTES:
-            fail(f'{quoted(name)} has more than {MOST_BYTES} bytes, which figgroup does not read')
 
 
 def keeps_lines(before, behind):
@@ -69,9 +58,9 @@ def overwrites_none(tree):
             fail(f'{quoted(os.fsdecode(name))} of others would overwrite yours, so nothing was pulled: move it away')
 
 
-def merge():
+def merge() -> None:
     """Merges what was fetched, where it takes nothing from this copy. That is asked before any file changes."""
-    stays_apart('FETCH_HEAD', OTHERS)
+    sharing.stays_apart('FETCH_HEAD', OTHERS)
     base = sharing.answer('merge-base', 'HEAD', 'FETCH_HEAD')
     if base:  # two who began at once have no commit in common
         keeps_lines(base, 'FETCH_HEAD')
@@ -81,14 +70,17 @@ def merge():
         fail('git could not try the merge, for which it has to be of version 2.38 or later')
     tree, *conflicts = map(os.fsdecode, wrote.split(b'\0')[:-1])
     if conflicts and conflicts[0]:
-        prefix = sharing.answer('rev-parse', '--show-prefix')
+        prefix = sharing.prefix()
         if conflicts[0].startswith(f'{prefix}site-') and is_site_file(conflicts[0].removeprefix(prefix)):
             fail('two copies wrote to one file, so nothing was pulled: docs/FAULTS.md')
         fail(f"git can't merge {quoted(conflicts[0])}, so nothing was pulled: "
              'git merge FETCH_HEAD, and settle it there')
-    stays_apart(tree, OTHERS)
+    sharing.stays_apart(tree, OTHERS)
     keeps_lines('HEAD', tree)
     overwrites_none(tree)
+    faults = incoming.new_faults('HEAD', tree)
+    if faults:
+        fail(f'nothing was pulled: {incoming.told(faults, "FETCH_HEAD")}: docs/FAULTS.md says what to do')
     status, _, said = git('merge', '-q', '--no-edit', '--allow-unrelated-histories', 'FETCH_HEAD')
     if status:
         git('merge', '--abort')
@@ -106,12 +98,12 @@ def fetch():
         raise Failure(*lines_of(said))
 
 
-def bring_back():
+def bring_back() -> list[str]:
     """Brings back site files of others that were deleted here. Answers which."""
-    names = sharing.deleted()
-    for name in names:
+    lost = sharing.deleted()
+    for name in lost:
         storing.put(name, sharing.shown('HEAD', name))
-    return [f'draw: {quoted(name)} was deleted here, and is back' for name in names]
+    return [f'draw: {quoted(name)} was deleted here, and is back' for name in lost]
 
 
 def pull():
@@ -139,8 +131,9 @@ def word_pull():
         write(line)
 
 
-def word_push():
+def word_push() -> None:
     file = commit_own()
+    refuse_to_send()
     status, _, said = git('push', '-q', '-u', 'origin', 'HEAD')
     if status and (b'fetch first' in said or b'non-fast-forward' in said):
         fail('others pushed since your last pull: draw pull, then draw push')
@@ -149,14 +142,36 @@ def word_push():
     write(f'draw: pushed {file.name}')
 
 
-def word_status():
+def refuse_to_send() -> None:
+    """Refuses to send files that each copy has for itself, in any commit, and lines that others' pulls would refuse."""
+    there = sharing.fetched()
+    sent = sharing.answer('merge-base', 'HEAD', there)
+    commit, name = sharing.unsent_of_one_copy()
+    if commit:
+        back = f'git reset --soft {sent[:10]}' if sent else 'git update-ref -d HEAD'
+        fail(f'{quoted(name)} is in commit {commit}, and each copy has its own, so nothing was pushed: {back} && '
+             f'git rm -r -q --cached --ignore-unmatch {quoted(name)} && git commit -q -m again')
+    faults = incoming.new_faults(there if sent else '', 'HEAD')
+    if faults:
+        left = [name for name in site_files() if git('diff', '--quiet', 'HEAD', '--', name)[0]]
+        left += [name for name in site_files() if not sharing.answer('ls-files', '--', name)]
+        way = f'git add {" ".join(map(quoted, left))} && git commit -m today, or docs/FAULTS.md' if left else 'docs/FAULTS.md says what to do'
+        fail(f'nothing was pushed: {incoming.told(faults, "HEAD")}: {way}')
+
+
+def word_status() -> None:
     number = site()
+    all_lines = lines()
     if number:
         write(f'draw: this copy is of site {number}')
-    if os.path.exists('drawing.fig'):
-        write('draw: drawing.fig is not taken yet')
-    unsettled = settling.Unsettled(lines(), number)
-    for line in unsettled.others + unsettled.told() + sharing.told_deleted() or ['draw: all is settled']:
+        for line in blocked.told(number, all_lines):
+            write(line)
+    try:
+        unsettled = settling.Unsettled(all_lines, number)
+        told = unsettled.others + unsettled.told() + sharing.told_deleted()
+    except Failure as failure:
+        raise Failure(*failure.lines, *blocked.by_whom(failure.lines))
+    for line in told or ['draw: all is settled']:
         write(line)
     if sharing.in_git():
         tell_unpushed(number)

@@ -8,11 +8,10 @@ from folder import site
 from telling import Failure, fail, write
 
 
-def word_watch(option='--every', seconds='60'):
+def word_watch(option: str = '--every', seconds: str = '60') -> None:
     if site() is None:
         fail('whose copy is this? draw site N says it')
-    if not sharing.in_git():
-        fail('this folder is in no work tree of git')
+    sharing.must_be_in_git()
     told = []
     while True:
         wait_for_words()

@@ -33,7 +33,7 @@ def main(document, typed):
     if sys.stdout:
         sys.stdout.reconfigure(errors='replace')  # a terminal may not have the letters of a name
     beside = os.path.dirname(os.path.realpath(sys.argv[0]))
-    os.environ['PATH'] = os.environ.get('PATH', os.defpath) + ':' + beside
+    os.environ['PATH'] = without_relative(os.environ.get('PATH', os.defpath)) + beside
     help = [line.removeprefix('  ') for line in document.split('\n') if line.startswith('  draw ')]
     word, arguments = (typed or [''])[0], typed[1:]
     if word in HELP and arguments:
@@ -55,6 +55,11 @@ def main(document, typed):
             say(line)
         return 2
     return done(word, arguments)
+
+
+def without_relative(path: str) -> str:
+    """The folders of a PATH that are the same everywhere. Any other one has programs that others committed."""
+    return ''.join(folder + ':' for folder in path.split(':') if os.path.isabs(folder))
 
 
 def usage_of(forms):
@@ -115,6 +120,7 @@ def fits_page(arguments):
     """Sites with names, and then options of the server."""
     while arguments and is_designer(arguments[0]):
         arguments = arguments[1:]
+    arguments = [argument for argument in arguments if argument != '--new-addresses']
     options = arguments[::2]
     return len(arguments) % 2 == 0 and all(option in ('--port', '--listen', '--host') for option in options)
 

@@ -1,6 +1,7 @@
 #!/bin/sh
-# Runs each example and compares its output with what is expected of it: the lines by figgroup, and each FIG text by
-# bench_fig, which reads it and writes what it read. Where there is a window, whose words stand in the file of that name,
+# Runs each example and compares its output with what is expected of it: the lines by figgroup, or the program that FIGGROUP
+# names, and each FIG text by bench_fig, which reads it and writes what it read. To build bench_fig takes a kit of Rattle:
+# what is not run without one is counted. Where there is a window, whose words stand in the file of that name,
 # the lines are painted in it and expected.fig is repainted. Where there is a script, it is run as a session of as many
 # sites as the file sites says. Where the named text or the status of the lines is expected, or their faults or those of
 # commands are, these are compared; and where there are changes, the operations that site 1 makes of them, and the status
@@ -13,61 +14,70 @@ set -eu
 examples=$(cd "$(dirname "$0")" && pwd)
 root=$(dirname "$examples")
 tools=$root/tools
+figgroup=${FIGGROUP:-$root/bin/figgroup}
 reader=$root/crates/bench_fig/out/bench_fig
 output=$(mktemp)
 pixels=$(mktemp)
 trap 'rm -f "$output" "$pixels"' EXIT
 
+path=$(dirname "$figgroup"):$root/bin:$PATH
 passed=0
 failed=0
+left=0
+
+# Counts what can't be run here, and says why.
+leave() {
+    echo "$1: not run: $2"
+    left=$((left + 1))
+}
 
 drawn() {
-    cat "$@" | "$root/bin/figgroup" fig
+    cat "$@" | "$figgroup" fig
 }
 
 named() {
-    cat "$@" | "$root/bin/figgroup" fig --named
+    cat "$@" | "$figgroup" fig --named
 }
 
 # The words are split at blanks.
 painted() {
     words=$1
     shift
-    cat "$@" | "$root/bin/figgroup" paint $words
+    cat "$@" | "$figgroup" paint $words
 }
 
 repainted() {
-    "$root/bin/figgroup" repaint $1 < "$2"
+    "$figgroup" repaint $1 < "$2"
 }
 
 edited() {
-    "$root/bin/figgroup" session --sites "$1" < "$2"
+    "$figgroup" session --sites "$1" < "$2"
 }
 
 made() {
-    cat "$@" | "$root/bin/figgroup" edit --site 1
+    cat "$@" | "$figgroup" edit --site 1
 }
 
 told() {
-    cat "$@" | "$root/bin/figgroup" status
+    cat "$@" | "$figgroup" status
 }
 
 # The faults of lines that have some.
 faults() {
     status=0
-    "$root/bin/figgroup" check < "$1" || status=$?
+    "$figgroup" check < "$1" || status=$?
     [ "$status" = 1 ]
 }
 
 # The faults of commands of site 1 that have some.
 command_faults() {
     status=0
-    "$root/bin/figgroup" check --site 1 < "$1" || status=$?
+    "$figgroup" check --site 1 < "$1" || status=$?
     [ "$status" = 1 ]
 }
 
 imported() {
-    "$root/bin/figgroup" import --site 1 < "$1"
+    "$figgroup" import --site 1 < "$1"
 }
 
 # By which awk: its name.
@@ -103,11 +113,11 @@ plain_full() {
 
 # What an import tells of a drawing made plain.
 plain_faults() {
-    "$root/bin/figgroup" import --site 1 < "$1" 2>&1 > /dev/null
+    "$figgroup" import --site 1 < "$1" 2>&1 > /dev/null
 }
 
 plain_taken() {
-    cat "$examples"/named/site-*.jsonl "$1" | "$root/bin/figgroup" take --site 2
+    cat "$examples"/named/site-*.jsonl "$1" | "$figgroup" take --site 2
 }
 
 again() {
@@ -116,17 +126,17 @@ again() {
 
 # What the site of a folder takes of a drawing: the operations, and what is told of them.
 taken() {
-    cat "$1"/site-*.jsonl "$2" | "$root/bin/figgroup" take --site "$(cat "$1/site")" 2>&1 || [ $? = 1 ]
+    cat "$1"/site-*.jsonl "$2" | "$figgroup" take --site "$(cat "$1/site")" 2>&1 || [ $? = 1 ]
 }
 
 # The picture with the operations that are taken of a drawing.
 taken_picture() {
-    { cat "$1"/site-*.jsonl; grep '^{' "$2"; } | "$root/bin/figgroup" paint --fit 2> /dev/null
+    { cat "$1"/site-*.jsonl; grep '^{' "$2"; } | "$figgroup" paint --fit 2> /dev/null
 }
 
 # The picture of what a session comes to: its text without the report.
 edited_picture() {
-    edited "$1" "$3" | grep -v '^site ' | "$root/bin/figgroup" repaint $2
+    edited "$1" "$3" | grep -v '^site ' | "$figgroup" repaint $2
 }
 
 # Compares what the words behind the first two put out with what is expected of it.
@@ -206,7 +216,7 @@ compare_taken() {
         drawing="xfig, $(basename "$text")"
         compare "$drawing taken" "${text%.fig}.txt" taken "$1" "$text"
         if grep -q '^{' "${text%.fig}.txt"; then
-            "$root/bin/figgroup" repaint --fit < "$text" > "$pixels" 2> /dev/null
+            "$figgroup" repaint --fit < "$text" > "$pixels" 2> /dev/null
             compare "$drawing painted" "$pixels" taken_picture "$1" "${text%.fig}.txt"
         fi
     done
@@ -218,7 +228,9 @@ is_current() {
     [ -z "$newer" ]
 }
 
-if ! is_current; then
+if ! is_current && ! command -v rt > /dev/null; then
+    reader=
+elif ! is_current; then
     echo "bench_fig: proving and building" >&2
     if ! said=$(cd "$root/crates/bench_fig" && rt run -- scan 2>&1 < /dev/null); then
         printf '%s\nbench_fig: not built\n' "$said" >&2
@@ -273,7 +285,12 @@ for example in "$examples"/*/; do
     done
     [ -e "$example/expected.fig" ] || continue
     for text in "$example"/*.fig; do
-        compare "$(basename "$example"), $(basename "$text") again" "$example/expected.fig" again "$text"
+        again="$(basename "$example"), $(basename "$text") again"
+        if [ -z "$reader" ]; then
+            leave "$again" "to build bench_fig takes a kit of Rattle"
+        else
+            compare "$again" "$example/expected.fig" again "$text"
+        fi
     done
 done
 
@@ -281,10 +298,10 @@ for awk in $awks; do
     compare "plain by $awk, 1,001 boxes" "$examples/plain/full.txt" plain_full
     compare "plain by $awk, 20,000 corners" "$examples/plain/far.txt" plain_far
 done
-compare "program" "$examples/program/expected.txt" env PATH="$root/bin:$PATH" \
+compare "program" "$examples/program/expected.txt" env PATH="$path" \
     python3 "$examples/program/program.py" "$examples/red-box/input.jsonl"
-compare "random drawings made plain" /dev/null env PATH="$root/bin:$PATH" python3 "$tools/random_plain.py" 1 100
-compare "random takes" /dev/null env PATH="$root/bin:$PATH" python3 "$tools/random_takes.py" 1 400 30
+compare "random drawings made plain" /dev/null env PATH="$path" python3 "$tools/random_plain.py" 1 100
+compare "random takes" /dev/null env PATH="$path" python3 "$tools/random_takes.py" 1 400 30
 
 # In place of each window stands what xfig saved of it, named by the site and how many operations it had.
 export FIG_EDITOR="cp $examples/tutorial/saved/site-\$(cat site)-\$(wc -l < site-\$(cat site).jsonl).fig"
@@ -294,7 +311,7 @@ done
 if command -v fig2dev > /dev/null; then
     compare "README" /dev/null python3 "$tools/transcript.py" "$root/README.md" "$root"
 else
-    echo "README: skipped, as there is no fig2dev"
+    leave README "there is no fig2dev"
 fi
 for page in DRAWING CONFLICTS FORMATS STRANGERS; do
     compare "$page" /dev/null python3 "$tools/transcript.py" "$root/docs/$page.md" "$root"
@@ -304,17 +321,17 @@ if command -v git > /dev/null; then
         FIG_EDITOR="cp '$examples/by-git/saved/site-'\$(cat site).fig" \
         python3 "$tools/transcript.py" "$examples/by-git/README.md" "$root"
 else
-    echo "by-git: skipped, as there is no git"
+    leave by-git "there is no git"
 fi
 missing=
 for tool in git jq pngtopnm flock fig2dev; do
     command -v "$tool" > /dev/null || missing="$missing $tool"
 done
 if [ -z "$missing" ]; then
-    compare "draw" "$examples/draw/expected.txt" env PATH="$root/bin:$PATH" "$examples/draw/run.sh"
-    compare "week" "$examples/week/expected.txt" env PATH="$root/bin:$PATH" "$examples/week/run.sh"
+    compare "draw" "$examples/draw/expected.txt" env PATH="$path" "$examples/draw/run.sh"
+    compare "week" "$examples/week/expected.txt" env PATH="$path" "$examples/week/run.sh"
 else
-    echo "draw, week: skipped, as there is no$missing"
+    leave "draw, week" "there is no$missing"
 fi
-echo "$passed passed, $failed failed"
+echo "$passed passed, $failed failed, $left not run"
 [ "$failed" = 0 ]

@@ -2,28 +2,51 @@
 import asyncio
 import json
 import os
+import re
 import resource
+import shutil
+from collections.abc import Iterable
 
-from sitefile import Refusal
+from sitefile import MOST_BYTES, Refusal, SiteFile
 
-FIGGROUP = os.environ.get('FIGGROUP', 'figgroup')
 SECONDS = 30  # by the clock, for an answer
 MOST_MEMORY = 4 * 1024 ** 3
-MOST_BYTES = 16 * 1024 * 1024  # that it reads
-MOST_LINE = 1024 * 1024  # of an answer
+MOST_ANSWER = 1024 * 1024  # bytes of the line before an answer
+MOST_CUTS = 16  # lines left out for one request
+AT_LINE = re.compile(r'line (\d+): (.*)')
+DROPPED = re.compile(r'operation ([1-8])\.(\d+) dropped: .*')
 PIPE = asyncio.subprocess.PIPE
+
+
+def find_figgroup() -> str:
+    """The program figgroup. A PATH with `.` does not find one in the folder of the drawing, to which others commit."""
+    named = os.environ.get('FIGGROUP', 'figgroup')
+    folders = [folder for folder in os.environ.get('PATH', os.defpath).split(':') if os.path.isabs(folder)]
+    return os.path.abspath(named) if '/' in named else shutil.which(named, path=':'.join(folders)) or f'/usr/bin/{named}'
+
+
+FIGGROUP = find_figgroup()
 
 
 class Ended(Exception):
     """The process ended without an answer."""
 
 
+class Unable(Refusal):
+    """The process could not begin, as descriptors or memory are used up: to be tried again."""
+
+
+class Cut(Exception):
+    """A line of a file was left out, and the files are to be given again."""
+
+
 class Keeper:
     """A `figgroup serve` that keeps the operations of files, asked one question at a time. It is begun when it is asked, and
-    where it has ended, with all lines. Where what it made can't be added to a file, it has to be ended."""
+    where it has ended, with all lines. Where what it made can't be added to a file, it has to be ended. A line that it
+    refuses is left out with all that follow in that file."""
 
-    def __init__(self, files):
-        self.files = files
+    def __init__(self, files: Iterable[SiteFile]) -> None:
+        self.files = {file.site: file for file in files}
         self.process, self.given = None, {}  # of each site how many bytes, those that it made among them
         self.text = None  # the drawing of what it keeps, if it told that
 
@@ -39,7 +62,7 @@ class Keeper:
     async def show(self, site, name, shown):
         """The operations that show or hide an object."""
         command = {'site': site, 'do': 'set', 'object': [int(word) for word in name.split('.')], 'set': 'shown', 'to': shown}
-        lines = b''.join(file.lines for file in self.files)
+        lines = b''.join(file.lines for file in self.files.values())
         return await edit(site, lines + json.dumps(command).encode())
 
     async def drawing(self):
@@ -49,37 +72,59 @@ class Keeper:
         return self.text, status.decode()
 
     async def ask(self, asked, body=b''):
-        """What it answers, of all that the files have now."""
-        for last in (False, True):
+        """What it answers, of all that the files have now; without a question they are only given."""
+        ends = cuts = 0
+        while True:
             try:
                 await self.catch_up()
-                _, wrote = await self.answer(asked, body)
-                return wrote
+                return (await self.answer(asked, body))[1] if asked else b''
+            except Cut as cut:
+                cuts += 1
+                if cuts > MOST_CUTS:
+                    raise Refusal(str(cut))
             except Ended:
                 self.process = None
-                if last:
+                ends += 1
+                if ends > 1:
                     raise Refusal('figgroup ended without an answer')
 
-    async def catch_up(self):
+    async def catch_up(self) -> None:
         """Gives it what others brought into the files."""
         if self.process is None or self.process.returncode is not None:
-            self.process = await begin('serve', limit=MOST_LINE)
-            self.text, self.given = None, {file.site: 0 for file in self.files}
-        if sum(len(file.lines) for file in self.files) > MOST_BYTES:
-            raise Refusal('input too long')
-        more = {file.site: file.lines[self.given[file.site]:] for file in self.files}
-        if not any(more.values()):
-            return
-        is_first = not any(self.given.values())
-        try:
-            await self.answer({'do': 'lines'}, b''.join(more.values()))
-        except Refusal:
-            self.end()
-            if is_first:
-                raise
-            raise Ended  # and asked anew, so that a line at fault is counted among all
-        self.given = {site: self.given[site] + len(lines) for site, lines in more.items()}
-        self.text = None
+            self.process = await begin('serve', limit=MOST_ANSWER)
+            self.text, self.given = None, dict.fromkeys(self.files, 0)
+        self.fit()
+        for site, file in self.files.items():
+            more = file.lines[self.given[site]:]
+            if more:
+                try:
+                    await self.answer({'do': 'lines'}, more)
+                except Refusal as refusal:
+                    self.leave_out(file, more, str(refusal))
+                    raise Cut(str(refusal))
+                self.given[site] += len(more)
+                self.text = None
+
+    def fit(self) -> None:
+        """Leaves out new lines of the file that has most of them, if all files together are too long."""
+        while sum(len(file.lines) for file in self.files.values()) > MOST_BYTES:
+            site = max(self.files, key=lambda site: len(self.files[site].lines) - self.given[site])
+            self.files[site].reject(self.given[site], f'with it all files have more than {MOST_BYTES} bytes')
+
+    def leave_out(self, file: SiteFile, more: bytes, words: str) -> None:
+        """Finds the line that was refused when more lines of a file were given: one of these, or of an operation that waited
+        for one of these. Any other refusal is none of a line."""
+        if line := AT_LINE.fullmatch(words):
+            begin = sum(len(text) + 1 for text in more.split(b'\n')[:int(line[1]) - 1])
+            file.reject(self.given[file.site] + begin, line[2])
+        elif dropped := DROPPED.fullmatch(words):
+            file = self.files[int(dropped[1])]
+            at = file.place_of(int(dropped[2]))
+            file.reject(at, words)
+            if at < self.given[file.site]:
+                self.end()
+        else:
+            raise Refusal(words)
 
     async def answer(self, asked, body):
         process = self.process  # which may be ended meanwhile
@@ -134,5 +179,5 @@ async def begin(*words, **more):
     except ProcessLookupError:
         pass  # it has ended
     except OSError as error:
-        raise Refusal(f'{FIGGROUP} does not run: {error.strerror}')
+        raise Unable(f'{FIGGROUP} does not run: {error.strerror}')
     return process

@@ -1,10 +1,12 @@
 #!/usr/bin/env bash
-# Asks the completions of bash for words, and compares what they offer with what is expected.
+# Asks the completions of bash for words, and compares what they offer with what is expected. Names and site files have
+# commands, also behind a byte that is no UTF-8, in the locale C.UTF-8, which Debian always has: none of them runs.
 set -eu
+export LC_ALL=C.UTF-8
 root=$(cd "$(dirname "$0")/.." && pwd)
 folder=$(mktemp -d)
 trap 'rm -rf "$folder"' EXIT
-PATH=$root/bin:$PATH
+PATH=${FIGGROUP:+${FIGGROUP%/*}:}$root/bin:$PATH
 . "$root/share/bash-completion/figgroup"
 cd "$folder"
 cp "$root"/examples/named/site-*.jsonl .
@@ -36,5 +38,12 @@ offers '--mine --theirs --site' draw keep -
 offers '' draw bring ''
 offers 'car' draw move 50 0 c
 offers '1.1 1.2 1.3 1.4 1.5 1.6 car fir' draw delete ''
-[ ! -e made ]
+printf 'tree \377$(touch made) 1.1\n\377`touch made` 1.1\nbig\377 1.1\n' >> names
+printf '%s\n' $'$(touch made)\377"id":[1,1],"kind"' $'\377$(touch made)"id":[1,7],"kind"\377`touch made`' > site-3.jsonl
+offers '1.1 1.2 1.3 1.4 1.5 1.6 1.1 1.7 car fir tree' draw delete ''
+[ ! -e made ] || { echo 'completion: a command in names or a site file ran' >&2; exit 1; }
+rm names
+ln -s /dev/zero names
+ln -s /dev/zero site-4.jsonl
+offers '1.1 1.2 1.3 1.4 1.5 1.6 1.1 1.7' draw delete ''
 echo 'completion: as expected'

@@ -11,7 +11,7 @@ kills=${1-300}
 folder=$(mktemp -d)
 disk=
 trap 'cd /; [ -z "$disk" ] || umount "$disk"; rm -rf "$folder"' EXIT
-export PATH=$root/bin:$PATH
+export PATH=${FIGGROUP:+${FIGGROUP%/*}:}$root/bin:$PATH
 unset FIG_EDITOR
 
 failed() {
@@ -185,3 +185,4 @@ done
 [ $((all + none)) = "$kills" ] || failed "only $turn kills"
 echo "draw_kills: $turn kills as expected: $all words whole, $none not made, $told told by the next word" >&2
 full_disk >&2
+echo "$turn passed, 0 failed"

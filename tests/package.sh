@@ -7,11 +7,15 @@ trap 'rm -rf "$folder"' EXIT
 cd "$root"
 for tool in dpkg-deb make; do
     if ! command -v $tool > /dev/null; then
-        echo "package: not tried, as there is no $tool"
-        exit 0
+        echo "package: not run: there is no $tool"
+        exit 77
     fi
 done
-make -s deb TO="$folder" > "$folder/said" 2>&1 || { cat "$folder/said" >&2; exit 1; }
+mkdir "$folder/left"
+TMPDIR=$folder/left make -s deb TO="$folder" > "$folder/said" 2>&1 || { cat "$folder/said" >&2; exit 1; }
+[ -z "$(ls -A "$folder/left")" ] || { echo "package: make left a folder in the temporary folder" >&2; exit 1; }
+if GIT_DIR=$folder/none make -s deb TO="$folder/left" > "$folder/said" 2>&1; then exit 1; fi
+grep -q '^make deb: the version has' "$folder/said"
 dpkg-deb -x "$folder"/figgroup_*_amd64.deb "$folder/root"
 PATH=$folder/root/usr/bin:/usr/bin:/bin
 mkdir "$folder/day"

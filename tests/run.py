@@ -1,5 +1,6 @@
 #!/usr/bin/env python3
 """Runs the program once for each row of the tables in rows/, and compares what it answers: tests/run.py [PROGRAM].
+Without PROGRAM it is that of FIGGROUP, or the one in bin/.
 
 The words of a row stand behind settings. READ, ROOM, MOST and ALLOCATION are those of tools/refuse.c: READ=0..9 stands for
 ten runs. NAME is the word by which the program is called, and 2>/dev/full a standard error that takes nothing.
@@ -193,7 +194,7 @@ def counts(program, tables, threads):
 
 
 def main():
-    path = Path(sys.argv[1] if len(sys.argv) > 1 else ROOT / "bin" / "figgroup")
+    path = Path(sys.argv[1] if len(sys.argv) > 1 else os.environ.get("FIGGROUP", ROOT / "bin" / "figgroup"))
     if not path.exists():
         sys.exit(f"no program: {path}")
     try:

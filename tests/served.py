@@ -251,6 +251,7 @@ def main():
     for fault in faults:
         print(fault, file=sys.stderr)
     print(f"served: {runs} runs of {sum(count for _, count in found)} requests, {len(faults)} failed")
+    print(f"{int(runs) - len(faults)} passed, {len(faults)} failed")
     sys.exit(1 if faults else 0)
 
 

@@ -4,7 +4,7 @@
 set -eu
 root=$(cd "$(dirname "$0")/.." && pwd)
 copy=$(mktemp -d)
-trap 'rm -rf "$copy"' EXIT
+trap 'rm -rf "$copy" "$copy-kit"' EXIT
 passed=0
 failed=0
 
@@ -71,12 +71,38 @@ restore
 mkdir -p "$copy/crates/gf_base/must-fail"
 touch "$copy/crates/gf_base/must-fail/more.edit"
 takes "a new wrong edit" ""
-if command -v rt > /dev/null && [ "$(rt version)" = "$(sed -n 's/^kit //p' "$root/bin/figgroup.sum")" ]; then
-    restore
-    cp "$copy/bin/figgroup" "$copy/built"
-    takes "a built program that is the same" "$copy/built"
-    change built
-    refuses "a byte of the built program" "$copy/built"
-fi
+restore
+touch "$copy/crates/gf_base/src/$(printf 'a\nb').rt"
+refuses "a source with a line break in its name" ""
+restore
+ln -s nowhere "$copy/crates/gf_base/src/more.rt"
+refuses "a source that can't be read" ""
+
+# In place of a kit a script prints its version: that of the kit that built bin/, or another one.
+mkdir "$copy-kit"
+PATH=$copy-kit:$PATH
+is_kit() {
+    printf '#!/bin/sh\necho "%s"\n' "$1" > "$copy-kit/rt"
+    chmod +x "$copy-kit/rt"
+}
+kit=$(sed -n 's/^kit //p' "$root/bin/figgroup.sum")
+is_kit "$kit"
+restore
+cp "$copy/bin/figgroup" "$copy/built"
+takes "a built program that is the same" "$copy/built"
+change built
+refuses "a byte of the built program" "$copy/built"
+restore
+cp "$copy/bin/figgroup" "$copy/built"
+is_kit "kit of tomorrow"
+refuses "a program built by another kit" "$copy/built"
+# Whoever commits another program writes its sum, too, and any kit into it.
+for named in "$kit" "kit of tomorrow"; do
+    printf '#!/bin/sh\necho evil\n' > "$copy/bin/figgroup"
+    { grep ^sources "$root/bin/figgroup.sum"; echo "kit $named"; echo "program $(sha256sum < "$copy/bin/figgroup" | cut -d ' ' -f 1)"; } \
+        > "$copy/bin/figgroup.sum"
+    is_kit "$kit"
+    refuses "another program, with a sum that names $named" "$copy/built"
+done
 echo "$passed passed, $failed failed"
 [ "$failed" = 0 ]

@@ -4,13 +4,15 @@
 set -euo pipefail
 declare -A package=(
     [chromium]=chromium [chromedriver]=chromium-driver [xfig]=xfig [Xvfb]=xvfb [xdotool]=xdotool
-    [git]=git [jq]=jq [pnmtopng]=netpbm [fig2dev]=fig2dev [gawk]=gawk [mawk]=mawk
+    [node]=nodejs [ip]=iproute2 [git]=git [jq]=jq [pnmtopng]=netpbm [fig2dev]=fig2dev [gawk]=gawk [mawk]=mawk [cc]=gcc
 )
 missing=()
 for tool in "${!package[@]}"; do command -v "$tool" > /dev/null || missing+=("${package[$tool]}"); done
 for module in tornado selenium; do
     /usr/bin/python3 -c "import $module" 2> /dev/null || missing+=("python3-$module")
 done
+[ -e /usr/include/stdio.h ] || missing+=(libc6-dev)  # for tools/refuse.c
+getent hosts localhost > /dev/null || missing+=(libnss-myhostname)  # a new chroot has no /etc/hosts
 [ ${#missing[@]} -gt 0 ] || exit 0
 if [ "$(id -u)" != 0 ] || ! command -v apt-get > /dev/null; then
     echo "tools: missing: ${missing[*]}" >&2

@@ -133,6 +133,10 @@ class Definition:
         operators = {f"◌{it}◌" for it in OPERATOR.findall(text)} | ({"◌>>=◌"} if " do\n" in text else set())
         return (set(NAME.findall(text)) - bound | operators) - {self.name}
 
+    def names_in(self, alias):
+        """The names that it takes from a file of definitions, which it calls so."""
+        return re.findall(rf"(?<![\w.'-]){alias}\.([\w'-]+)", self.text)
+
 
 def imports_of(text):
     """Where each imported name stands: the module, with its crate, and the name there."""
@@ -259,7 +263,10 @@ def rest_of(files, cited):
                 if other in file.definitions:
                     left.append((module, other))
                 elif other in file.imports:
-                    left.append(file.imports[other])
+                    there, imported = file.imports[other]
+                    is_file = there in files and imported not in files[there].definitions
+                    taken = file.definitions[name].names_in(other) if is_file else [imported]
+                    left += [(there, it) for it in taken]
     return found
 
 

@@ -293,7 +293,7 @@ def threaded(program):
 def main():
     calls = built("test_memory")
     listed = subprocess.run([calls], capture_output=True, text=True, check=True).stdout
-    trials = [Call(calls, line) for line in listed.splitlines()] + commands(ROOT / "bin" / "figgroup")
+    trials = [Call(calls, line) for line in listed.splitlines()] + commands(Path(os.environ.get("FIGGROUP", ROOT / "bin" / "figgroup")))
     with tempfile.TemporaryDirectory() as folder, ThreadPoolExecutor(os.cpu_count()) as threads:
         refuser = Refuser(folder)
         for line in threads.map(lambda trial: refuse_each(refuser, trial), trials):

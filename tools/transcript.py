@@ -12,6 +12,7 @@ import subprocess
 import sys
 import tempfile
 
+FIGGROUP = os.environ.get("FIGGROUP")  # the program, if it is not the one in bin
 MARK = "-- end of a command --"
 
 
@@ -29,8 +30,8 @@ def run(commands, root, folder):
         os.symlink(os.path.join(root, name), os.path.join(folder, name))
     programs = os.path.join(folder, "bin")
     os.mkdir(programs)
-    for name in ("figgroup", "draw"):
-        os.symlink(os.path.join(root, "bin", name), os.path.join(programs, name))
+    os.symlink(FIGGROUP or os.path.join(root, "bin", "figgroup"), os.path.join(programs, "figgroup"))
+    os.symlink(os.path.join(root, "bin", "draw"), os.path.join(programs, "draw"))
     stand_in = os.path.join(programs, "pnmtopng")
     with open(stand_in, "w") as file:
         file.write("#!/bin/sh\nexec cat\n")

@@ -388,8 +388,8 @@ say "draw picture house.svg"
 say "grep -c '<polygon' house.svg"
 mkdir without
 ln -s "$(command -v python3)" "$(command -v git)" without
-say "PATH=without \$root/bin/draw picture house.pdf"
-say "PATH=without \$root/bin/draw picture house.png 2>&1 | tail -n 1"
+say "PATH=\$PWD/without \$root/bin/draw picture house.pdf"
+say "PATH=\$PWD/without \$root/bin/draw picture house.png 2>&1 | tail -n 1"
 
 heading "an old drawing"
 begin old
@@ -645,7 +645,7 @@ say "draw page Ann"
 say "draw page 9=Ann"
 say "draw page 1="
 say "draw page 1=Ann --listen"
-say "PYTHONPATH=without draw page 1=Ann 2=Ben"
+say "PYTHONPATH=without draw page 1=Ann 2=Ben --port none"
 say "ls"
 
 heading "two in git"
@@ -778,6 +778,9 @@ git commit -q -m site
 say "draw push"
 git rm -q --cached site
 git commit -q -m 'no site'
+draw push 2> ../way || true
+say "sed 's/commit .*, and/commit N, and/; s/soft [0-9a-f]*/soft N/' ../way"
+bash -c "$(sed 's/.*nothing was pushed: //' ../way)" > /dev/null || true  # there is nothing left to commit
 say "draw push"
 
 heading "deleted files"

@@ -1,9 +1,10 @@
 """What the tests in a browser share: one browser for a class of tests, a server for each test, a window for each page."""
+import json
 import os
 import pathlib
 import unittest
 
-from helpers import Page, Server, browser, wait
+from helpers import TAP, Page, Server, browser, wait
 
 SHOTS = os.environ.get('SHOTS')  # a folder for screenshots
 
@@ -39,13 +40,17 @@ class PageTest(unittest.TestCase):
         self.driver.get('data:,')
         self.server.end()
 
-    def page(self, site=1, state='saved'):
-        """A further window with the page of a site."""
+    def page(self, site=1, state='saved', held=None):
+        """A further window with the page of a site, which is tapped if `held` tells what it does not hear at first."""
         self.driver.switch_to.window(self.first)
         if self.driver.current_url != 'data:,':
             self.driver.switch_to.new_window('window')
             self.driver.get('data:,')
+        tap = None if held is None else self.driver.execute_cdp_cmd(
+            'Page.addScriptToEvaluateOnNewDocument', {'source': TAP % json.dumps(held)})
         page = Page(self.driver, self.server.address[site], state)
+        if tap:  # for this page alone, and for no later one in this window
+            self.driver.execute_cdp_cmd('Page.removeScriptToEvaluateOnNewDocument', tap)
         page.keep_view()
         return page
 
@@ -55,8 +60,8 @@ class PageTest(unittest.TestCase):
 
     def made(self, count, site=None):
         """The operations, as soon as there are so many."""
-        wait(lambda: len(self.server.operations(site)) == count,
-             what=lambda: f'{len(self.server.operations(site))} operations and not {count}: {self.server.operations(site)}')
+        wait(lambda: len(self.server.lines(site)) == count,
+             what=lambda: f'{len(self.server.lines(site))} operations and not {count}: {self.server.lines(site)[-9:]}')
         return self.server.operations(site)
 
     def last(self, count, *keys):

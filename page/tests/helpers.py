@@ -25,7 +25,7 @@ ROOT = PAGE.parent
 FIGGROUP = os.environ.get('FIGGROUP', str(ROOT / 'bin' / 'figgroup'))
 DRAW = ROOT / 'bin' / 'draw'
 NAMES = ['Ann', 'Ben', 'Cleo', 'Dan', 'Eva', 'Finn', 'Gil', 'Hal']
-LONG = 40  # seconds, within which all comes also on a busy machine
+LONG = 40  # seconds; the longest that anything took was 18, on four cores at a load of 35
 
 
 def wait(until, seconds=LONG, what='nothing came'):
@@ -85,10 +85,14 @@ class Server:
         self.kill()
         shutil.rmtree(self.folder)
 
-    def operations(self, site=None):
+    def lines(self, site: int | None = None) -> list[str]:
+        """The whole lines of the file of a site, or of all."""
         files = [self.folder / f'site-{site}.jsonl'] if site else sorted(self.folder.glob('site-*.jsonl'))
         texts = [file.read_text() for file in files if file.exists()]
-        return [json.loads(line) for text in texts for line in text[:text.rfind('\n') + 1].splitlines()]
+        return [line for text in texts for line in text[:text.rfind('\n') + 1].splitlines()]
+
+    def operations(self, site=None):
+        return [json.loads(line) for line in self.lines(site)]
 
     def figgroup(self, *words):
         read = b''.join(file.read_bytes() for file in sorted(self.folder.glob('site-*.jsonl')))
@@ -117,6 +121,22 @@ def browser(size=(1280, 900), *words):
     driver.set_script_timeout(LONG)
     return driver
 
+
+# Lets a test hold back what the server says by how it begins, say something in its place, and keep what the page says.
+TAP = '''{
+    const {send} = WebSocket.prototype, {set} = Object.getOwnPropertyDescriptor(WebSocket.prototype, 'onmessage');
+    window.held = %s;
+    window.kept = [];
+    window.sent = [];
+    WebSocket.prototype.send = function(data) {
+        if (window.kept.some(begin => data.startsWith(begin))) window.sent.push(data);
+        else send.call(this, data);
+    };
+    Object.defineProperty(WebSocket.prototype, 'onmessage', {configurable: true, set(hear) {
+        window.says = data => hear({data});
+        set.call(this, ({data}) => window.held.some(begin => data.startsWith(begin)) || hear({data}));
+    }});
+}'''
 
 MODULE = 'return import(location.href + "main.js").then(({live, drawing, canvas, gestures}) => {%s})'
 
@@ -284,6 +304,14 @@ class Page:
         """Lets nothing through to the server."""
         self.js('''window.say ??= WebSocket.prototype.send;
             WebSocket.prototype.send = arguments[0] ? () => {} : window.say''', on)
+
+    def hold(self, *begins: str) -> None:
+        """Holds back the messages of the server that begin so. The page has to be tapped."""
+        self.js('window.held = [...arguments]', *begins)
+
+    def hear(self, **message: object) -> None:
+        """Lets the page hear this as said by the server."""
+        self.js('window.says(arguments[0])', json.dumps(message))
 
     def shot(self, path):
         self.here().save_screenshot(str(path))

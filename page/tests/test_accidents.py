@@ -50,6 +50,55 @@ class Accidents(PageTest):
         page.wait_figures(['rect #2e7d32 500 3500 1000 1000', f'rect {FIRST} 0 3000 1000 1000'])
         self.assertEqual('4f7cac', self.server.colour_at(700, 3700))
 
+    def test_a_browser_that_forgets(self):
+        """What waits on a page is not given up because its copy in the browser was cleared."""
+        page = self.page()
+        self.server.kill()
+        page.wait_for('offline')
+        page.draw('r', (0, 0), (1000, 1000))
+        page.js('localStorage.clear()')
+        page.draw('r', (2000, 0), (3000, 1000))
+        self.server.start()
+        page.wait_for('saved')
+        self.made(2)
+        page.wait_figures([f'rect {FIRST} 0 0 1000 1000', f'rect {FIRST} 2000 0 1000 1000'])
+
+    def test_two_windows_that_were_closed(self):
+        """Of several windows that were closed while their changes waited, a page shows one after the other."""
+        page = self.page()
+        self.server.kill()
+        page.wait_for('offline')
+        page.draw('r', (0, 0), (1000, 1000))
+        page.js('''const [[key, record]] = Object.entries(localStorage);
+            localStorage.setItem(`${key}more`, record.replaceAll('[0,0,1000,1000]', '[0,2000,1000,1000]'))''')
+        page.here().get('data:,')
+        self.server.start()
+        page = self.page()
+        page.wait_text('#bar span', ['Another window of yours was closed before its changes were saved.'])
+        self.made(1)
+        page.button_of('Show them')
+        page.button_of('Draw them anew')
+        self.made(2)
+        page.wait_text('#bar span', [])
+        self.assertEqual([[0, 0], [0, 2000]], sorted(operation['place'] for operation in self.made(2)))
+        wait(lambda: page.js('return Object.keys(localStorage)') == [])
+
+    def test_another_window_goes_on(self):
+        """A page whose changes another window took over, as it gave no answer, gives them up, and says so."""
+        one = self.page()
+        self.server.kill()
+        one.wait_for('offline')
+        one.draw('r', (0, 0), (1000, 1000))
+        one.mute()
+        one.js('''window.frozen = BroadcastChannel.prototype.postMessage; BroadcastChannel.prototype.postMessage = () => {}''')
+        self.server.start()
+        two = self.page()
+        two.wait_for('saved')
+        self.made(1)
+        one.mute(False)
+        one.wait_text('#notices p', ['Another window goes on with the changes that waited here.'])
+        self.made(1)
+
     def test_killed_between_gestures(self):
         page = self.page()
         for i in range(8):
@@ -74,21 +123,26 @@ class Accidents(PageTest):
         page.wait_figures([f'rect {FIRST} 0 0 1000 1000'])
 
     def test_disk_lost_lines(self):
-        """Where a file loses operations nothing is added to it, and the page says so."""
+        """A file that loses operations gets them again. One whose lines changed stops its site, and the page says so."""
         page = self.page()
         page.draw('r', (0, 0), (1000, 1000))
         self.made(1)
         page.wait_for('saved')
         path = self.server.folder / 'site-1.jsonl'
-        kept = path.read_bytes()
         path.write_bytes(b'')
         page.drag((500, 500), (1500, 500))
+        self.made(2)
+        page.wait_for('saved')
+        whole = path.read_bytes()
+        path.write_bytes(whole.replace(b'"colour":"4f7cac"', b'"colour":"4f7cad"'))
+        page.wait_text('#state', ["You can't draw: see the message"])
+        wait(lambda: 'lines changed' in ''.join(page.text('#notices .fault')), what=lambda: page.text('#notices p'))
+        page.drag((1500, 500), (2500, 500))
         page.wait_for('refused')
-        wait(lambda: 'lost or changed' in ''.join(page.text('.bubble')))
-        path.write_bytes(kept)
+        path.write_bytes(whole)
         page.button_of('Try again')
         page.wait_for('saved')
-        self.made(2)
+        self.made(3)
 
 
 class Names(PageTest):

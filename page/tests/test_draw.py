@@ -259,7 +259,7 @@ class Gestures(PageTest):
         lines = first + ''.join(line % (i, i - 1, i) for i in range(2, 10000))
         (self.server.folder / 'site-1.jsonl').write_text(lines)
         self.server.start()
-        wait(lambda: page.text('#left p')[:1] == ['1 of your 10,000 operations are left.'], what=lambda: page.text('#left p'))
+        wait(lambda: page.text('#left p')[:1] == ['1 of your 10,000 operations is left.'], what=lambda: page.text('#left p'))
         page.wait_for('saved')
         page.click(500, 500)
         page.press(Keys.ARROW_RIGHT)
@@ -267,7 +267,9 @@ class Gestures(PageTest):
         wait(lambda: page.text('#left p')[:1] == ['Your 10,000 operations are used up.'], what=lambda: page.text('#left p'))
         page.press(Keys.ARROW_RIGHT)
         page.wait_for('refused')
-        wait(lambda: 'Your 10,000 operations are used up' in ''.join(page.text('.bubble')), what=lambda: page.text('.bubble'))
+        page.wait_text('#bar span', ['Your 10,000 operations are used up. Go on under another number.'])
+        page.wait_text('#state', ['Not taken'])
+        page.wait_text('.bubble', [])
 
     def test_help(self):
         page = self.page()

@@ -1,6 +1,7 @@
 #!/usr/bin/python3
 """The server without a browser: who is let in, what is refused, what a kill leaves, who draws, eight sites at once."""
 import asyncio
+import contextlib
 import fcntl
 import json
 import os
@@ -8,6 +9,7 @@ import pathlib
 import signal
 import subprocess
 import tempfile
+import time
 import unittest
 import urllib.error
 import urllib.request
@@ -173,7 +175,9 @@ class Strangers(ServeTest):
         for messages in [[''], ['[]'], ['{}'], ['nonsense'], [{'take': drawing(), 'after': 0, 'request': 'p.1'}],
                          [{**hello, 'page': '../x'}], [{**hello, 'turn': 'x'}], [hello, {'take': 3}], [hello, {'show': 3}],
                          [hello, {'take': '#FIG', 'after': 'x', 'request': 'p.1'}], [hello, {'holds': 3}],
-                         [hello, {'take': '#FIG', 'after': 0, 'request': 'p'}], [hello, {'take': 'x' * (2 ** 24 + 9)}],
+                         [hello, {'take': '#FIG', 'after': 0, 'request': 'p'}], [hello, {'take': 'x' * (2 ** 22 + 9)}],
+                         ['[' * 100000], [{**hello, 'turn': 1.5}], [hello, '{"take":"#FIG","after":1e999,"request":"p.1"}'],
+                         [hello, {'take': '#FIG', 'after': 0, 'request': 'p.' + '9' * 5000}], [hello, {'holds': [['1.1']]}],
                          [hello, {'show': '1.1","site":2', 'to': True, 'after': 0, 'request': 'p.1'}]]:
             client = await Client().open(address, joins=False)
             with self.assertRaises(CLOSED, msg=str(messages)[:200]):
@@ -183,12 +187,21 @@ class Strangers(ServeTest):
         client = await self.client()  # it stands
         self.assertEqual(1, (await client.take(drawing(box(0))))['taken'])
 
-    async def test_pace_and_number(self):
-        client = await self.client()
-        with self.assertRaises(CLOSED):
-            for _ in range(1000):
-                await client.say({'holds': []})
-            await client.hear('refused')
+    async def test_pace(self) -> None:
+        """Of a site and not of a connection: who calls again may not say more."""
+        began, heard = time.monotonic(), 0
+        while time.monotonic() < began + 2:
+            client = await Client().open(self.server.address[1], joins=False)
+            with contextlib.suppress(*CLOSED):
+                await client.say({'page': client.page, 'turn': None, 'draws': True})
+                for _ in range(200):
+                    await client.say({'draw': True})
+                while await client.hear('draws'):
+                    heard += 1
+        self.assertLess(heard, 100 + 25 * (time.monotonic() - began) + 5)
+        await (await self.client(2)).take(drawing(box(0)))  # others go on
+
+    async def test_number_of_pages(self) -> None:
         clients = [await self.client(1 + i % 8) for i in range(64)]
         with self.assertRaises(CLOSED):
             await (await Client().open(self.server.address[1], joins=False)).hear('refused')
@@ -298,19 +311,6 @@ class Keeping(ServeTest):
         while '# figgroup knows 1.2' not in (other.text or ''):
             self.assertNotIn(' 900 ', (await other.hear('drawing'))['drawing'])
         self.made(2)
-
-    async def test_a_line_at_fault(self):
-        """One that another program adds is told by its number among all lines."""
-        client = await self.client()
-        await self.draws(client, 1)
-        line = (self.server.folder / 'site-1.jsonl').read_text().replace('"id":[1,1]', '"id":[2,1]')
-        with open(self.server.folder / 'site-2.jsonl', 'w', buffering=1) as file:
-            file.write(line)
-            while '# figgroup knows 1.1 2.1' not in (client.text or ''):
-                await client.hear('drawing')
-            file.write('{}\n')
-            self.assertEqual('line 3: Field', (await client.hear('fault'))['fault'])
-        self.assertEqual('line 3: Field', (await client.take(drawing(box(0), box(500)), after=1))['refused'])
 
     async def test_bound_of_memory(self):
         limits = pathlib.Path(f'/proc/{self.server.keeper()}/limits')  # of a process that may just begin
@@ -425,21 +425,6 @@ class Disk(ServeTest):
         said, _ = self.server.draw('set', '1.1', 'colour', '00ff00').communicate()
         self.assertEqual('figgroup: made 1.3: 1.1 colour\n', said)
         self.assertFalse(redo.exists())
-
-    async def test_lost_lines(self):
-        client = await self.client()
-        await client.take(drawing(box(0)))
-        path = self.server.folder / 'site-1.jsonl'
-        kept = path.read_bytes()
-        path.write_bytes(b'')
-        while 'fault' not in (said := await client.hear('drawing')):
-            pass
-        self.assertIn('lost or changed', said['fault'])
-        self.assertIn('lost or changed', (await client.take(drawing(box(900)), after=1))['refused'])
-        path.write_bytes(kept)
-        while 'fault' in (said := await client.hear('drawing')):
-            pass
-        self.assertEqual(2, (await client.take(drawing(box(0), box(900)), after=1))['taken'])
 
     async def test_draw_beside(self):
         """The words of draw and a page write for one site at once, and no number is given twice."""

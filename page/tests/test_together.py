@@ -220,9 +220,12 @@ class OneSite(PageTest):
         two.drag((500, 500), (2500, 500))
         one.wait_figures([f'rect {FIRST} 2000 0 1000 1000'])
 
-    def waiting(self):
-        """One drew while it was offline, and another page of its site took over meanwhile, and drew."""
-        one = self.page(1)
+    def waiting(self, held=False):
+        """One drew while it was offline, and another page of its site took over meanwhile, and drew. If `held`, the text that
+        names the first figure of one is late."""
+        one = self.page(1, held=[])
+        if held:
+            one.hold('{"drawing"')
         one.draw('r', (0, 0), (1000, 1000))
         self.made(1)
         one.wait_for('saved')
@@ -239,6 +242,12 @@ class OneSite(PageTest):
         self.made(2)
         two.wait_for('saved')
         one.mute(False)
+        return one, two
+
+    def asked(self, held=False):
+        """The same, and one was asked what becomes of its changes."""
+        one, two = self.waiting(held)
+        one.hold()
         self.restart()
         one.wait_for('asked')
         two.wait_for('saved')
@@ -249,7 +258,7 @@ class OneSite(PageTest):
         return one, two
 
     def test_waiting_gestures_made_anew(self):
-        one, two = self.waiting()
+        one, two = self.asked()
         one.button_of('Draw them anew')
         for page in (one, two):
             page.wait_figures(['rect #d64545 0 3000 1000 1000', f'ellipse {FIRST} 3500 3500 500 500'])
@@ -258,7 +267,7 @@ class OneSite(PageTest):
         self.made(4)
 
     def test_waiting_gestures_dropped(self):
-        one, two = self.waiting()
+        one, two = self.asked()
         one.button_of('Drop them')
         one.wait_for('watching')
         wait(lambda: one.text('.waits') == [])
@@ -269,16 +278,49 @@ class OneSite(PageTest):
             page.wait_figures(['rect #d64545 1000 0 1000 1000'])
         self.made(3)
 
-    def test_waiting_gestures_outlive_their_page(self):
-        """Asked, and closed before the answer: a page of the site that is opened later asks."""
-        one, two = self.waiting()
+    def outlive(self, one, two):
+        """One is closed before it was answered: a page of the site that is opened later asks."""
         one.here().get('data:,')
         two.wait_for('saved')
         three = self.page(1, 'asked')
+        wait(lambda: len(three.text('.waits')) == 2, what=lambda: three.text('.waits'))
         three.button_of('Draw them anew')
         for page in (two, three):
             page.wait_figures(['rect #d64545 0 3000 1000 1000', f'ellipse {FIRST} 3500 3500 500 500'])
+        three.wait_for('saved')
         self.assertEqual([], three.js('return Object.keys(localStorage)'))
+
+    def test_waiting_gestures_outlive_their_page(self):
+        self.outlive(*self.asked())
+
+    def test_waiting_gestures_outlive_their_page_by_new_names(self):
+        """The move of a figure that got its name while it waited is kept by that name."""
+        self.outlive(*self.asked(held=True))
+
+    def test_waiting_gestures_outlive_their_page_without_names(self):
+        """Closed before the text with the name came."""
+        one, two = self.waiting(held=True)
+        self.restart()
+        one.wait_for('asked')
+        self.outlive(one, two)
+
+    def test_waiting_gestures_of_what_was_deleted(self):
+        """A change of an object that was deleted meanwhile is not dropped without a word."""
+        one, two = self.waiting()
+        two.press(Keys.DELETE)
+        self.made(3)
+        two.wait_for('saved')
+        self.restart()
+        one.wait_for('asked')
+        gone = "1 change can't be made: its object was deleted meanwhile."
+        wait(lambda: gone in one.text('#bar span')[0], what=lambda: one.text('#bar span'))
+        one.button_of('Draw them anew')
+        for page in (one, two):
+            page.wait_figures([f'ellipse {FIRST} 3500 3500 500 500'])
+        one.wait_text('#notices p', [gone])
+        one.wait_for('saved')
+        one.draw('r', (0, 0), (1000, 1000))
+        one.wait_text('#notices p', [])
 
 
 if __name__ == '__main__':

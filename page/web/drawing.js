@@ -12,11 +12,23 @@ export function difference(before, after) {
         .filter(({was, is}) => !was || !is || was.figure.at !== is.figure.at || !sameLook(was.figure, is.figure));
 }
 
+// The changes of figures that are not there any more. `find` tells the key that a figure has now.
+export function gone(figures, changes, find = key => key) {
+    const there = new Set(figures.map(({key}) => key));
+    return changes.filter(({key, was, is}) => was && is && !there.has(find(key)));
+}
+
+// The same changes by the keys that their figures have now, so that another page finds these.
+export function renamed(changes, find) {
+    const placed = one => one && {...one, below: one.below && find(one.below)};
+    return changes.map(({key, was, is}) => ({key: find(key), was: placed(was), is: placed(is)}));
+}
+
 export const turned = changes => changes.map(({key, was, is}) => ({key, was: is, is: was}));
 
-// Does such changes to another list. Of a figure that others changed meanwhile only that changes which the gesture
-// changed; where it is gone, nothing. What was deleted comes back by its name, if it had one. `find` tells the key that
-// a figure has now, `rename` hears of a new one.
+// Does such changes to another list. Of a figure that others changed meanwhile, only the attributes change that the gesture
+// changed. If it is gone, nothing changes: see `gone`. A deleted figure comes back by its name, if it had one. `find` tells
+// the key that a figure has now, `rename` hears of a new one.
 export function redo(figures, changes, find = key => key, rename = () => {}) {
     const list = [...figures];
     const upon = below => below ? list.findIndex(figure => figure.key === find(below)) + 1 || list.length : 0;
@@ -110,16 +122,19 @@ export class Drawing extends EventTarget {
     }
 
     #make(changes) {
+        const {length} = gone(this.figures, changes, this.find);
         this.figures = redo(this.figures, changes, this.find, (old, key) => {
             this.#renamed.delete(key);
             if (old !== key) this.#renamed.set(old, key);
         });
         this.select(changes.map(({key}) => this.find(key)));
         this.dispatchEvent(new Event('gesture'));
+        if (length) this.dispatchEvent(new CustomEvent('gone', {detail: length}));
     }
 
     // Back to figures that were shown before. What was done since can't be undone.
     leave(figures) {
+        for (const {key} of figures) this.#renamed.delete(key);
         this.figures = figures;
         this.done = [];
         this.undone = [];

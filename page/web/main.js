@@ -85,7 +85,7 @@ drawing.addEventListener('shown', () => due ??= setTimeout(() => {
 
 // The first drawing that comes is shown whole.
 live.addEventListener('told', function first() {
-    if (live.state === 'offline') return;
+    if (!live.joined || live.state === 'empty') return;
     live.removeEventListener('told', first);
     canvas.fit();
 });

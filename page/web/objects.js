@@ -1,7 +1,7 @@
 // The list of objects, for the keyboard and for who hears the page: the topmost first, each an option in words.
 import {apart} from './fig.js';
 import {inWords} from './figure.js';
-import {whose} from './versions.js';
+import {label, whose} from './versions.js';
 
 export class Objects {
     #options = new Map();  // by key: the element, and the figure that it tells
@@ -12,6 +12,10 @@ export class Objects {
     constructor(root, drawing, canvas, live) {
         Object.assign(this, {root, drawing, canvas, live});
         drawing.addEventListener('shown', () => this.#later());
+        live.addEventListener('named', () => {
+            for (const option of this.#options.values()) option.figure = null;
+            this.#later();
+        });
         root.addEventListener('keydown', event => this.#key(event));
         root.addEventListener('click', event => this.#click(event));
         root.addEventListener('focus', () => this.#go(this.#active ?? this.#keys()[0]));
@@ -53,7 +57,7 @@ export class Objects {
     #tell(option, figure) {
         const {live} = this, [first] = apart(figure);
         const version = first ? `, ${whose(figure, live.designer(first.split('.')[0]), live)}` : '';
-        const name = `${figure.kind} ${figure.object ?? ''}`.trim() + version;
+        const name = label(`${figure.kind} ${figure.object ?? ''}`.trim(), figure.object, live) + version;
         option.figure = figure;
         option.swatch.style.background = figure.colour;
         option.name.textContent = name;

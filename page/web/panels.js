@@ -1,6 +1,7 @@
 // What stands around the canvas: the state, questions, colours, measures, designers, and what is to be settled.
 import {attributes, bounds, element, fitted, inWords, join, meet, svg} from './figure.js';
-import {conflicts, hidden, whose} from './versions.js';
+import {askedWords, freeSite, left, limitLeft, limitNext, limitWords, MORE, PROXY, stateWords} from './notices.js';
+import {conflicts, hidden, label, whose} from './versions.js';
 import {HINTS, TOOLS, WORDS} from './words.js';
 
 const COLOURS = new Map(Object.entries({  // with what they are called for who hears the page
@@ -11,12 +12,7 @@ const COLOURS = new Map(Object.entries({  // with what they are called for who h
 }));
 const MOST_CARDS = 12;          // objects in conflict that are shown at once
 const MOST_OWN = 16;            // colours of the drawing that are offered
-const LIMIT = 10000, FEW = 1000;  // operations of a site; from so few left on it is told
-const STATES = {
-    offline: 'No connection: what you draw is kept here', sending: 'Saving …', saved: 'Saved', watching: 'Watching',
-    refused: 'Not taken: mend what is marked', asked: 'Gestures wait for your word',
-};
-const USED_UP = 'Your 10,000 operations are used up.';
+const FEW = 1000;               // operations of a site; from so few left on it is told
 const NEED = ['copy', 'delete', 'front', 'up', 'down', 'ground'];  // words for what is selected
 
 const html = (name, properties = {}, ...inner) => {
@@ -28,7 +24,7 @@ const find = selector => document.querySelector(selector);
 const all = selector => document.querySelectorAll(selector);
 
 // A key as it stands on the keyboard.
-const printed = key => key.length === 1 ? key.toUpperCase() : key.replace(/^Ctrl\+(.)$/, (_, letter) =>
+const keycap = key => key.length === 1 ? key.toUpperCase() : key.replace(/^Ctrl\+(.)$/, (_, letter) =>
     letter === letter.toUpperCase() ? `Ctrl+Shift+${letter}` : `Ctrl+${letter.toUpperCase()}`);
 
 // Puts such elements there, unless they read the same: so the focus stays where it is.
@@ -73,6 +69,7 @@ export class Panels {
 
     show() {
         this.#state();
+        this.#left();
         this.#bar();
         this.#conflicts();
         this.#hidden();
@@ -121,42 +118,73 @@ export class Panels {
     // ---- The state, and what is asked
 
     #state() {
-        const {state, words, reason, store, last} = this.live, left = LIMIT - last;
-        find('#state').className = state;
-        const said = store.full ? 'No room to keep it here: leave this page open'
-            : state === 'offline' && reason ? `No connection: ${reason}` : STATES[state];
+        const {state, words, reason, hindrance, opened, store, faults, fileFaults, site, notice} = this.live;
+        const marked = faults.size > 0;
+        const said = stateWords({state, reason, hindrance, opened, full: store.full, marked, faults: fileFaults, own: site});
+        find('#state').className = `${state} ${fileFaults.length ? 'faulty' : ''}`;
         if (find('#state').textContent !== said) find('#state').textContent = said;
         find('#state').title = words || said;
-        put('#left', left > FEW ? '' : String(left), () => left > FEW ? [] : [
-            html('p', {}, left > 0 ? `${left} of your 10,000 operations are left.` : USED_UP),
+        put('#notices', JSON.stringify([notice, fileFaults]), () => [
+            ...notice ? [html('p', {}, notice)] : [], ...fileFaults.map(({words}) => html('p', {className: 'fault'}, words))]);
+    }
+
+    // How many operations are left, if these are few, and how to go on.
+    #left() {
+        const {last, designers, joined} = this.live, rest = left(last), free = freeSite(designers);
+        put('#left', rest > FEW ? '' : `${rest} ${free} ${joined}`, () => rest > FEW ? [] : [
+            html('p', {}, limitLeft(last)),
+            ...this.#other(free),
             html('p', {}, html('code', {}, 'draw anew FOLDER'), ' begins a new drawing from this picture.'),
         ]);
     }
 
+    #button(words, run) {
+        return html('button', {onclick: run, disabled: !this.live.joined}, words);
+    }
+
+    // A button for another number, if one is free.
+    #other(free) {
+        return free ? [this.#button(`Go on as site ${free}`, () => this.live.goOn())] : [];
+    }
+
+    // A button that takes back what is refused. After a reload nothing can be undone, and all of it is dropped.
+    #back() {
+        const {drawing, live} = this;
+        return drawing.done.length ? html('button', {onclick: () => drawing.undo()}, 'Undo')
+            : html('button', {onclick: () => live.giveUp()}, 'Drop it');
+    }
+
     // Watching, gestures that wait, a refusal: a line over the canvas, with what can be done.
     #bar() {
-        const {live} = this, {state, asked, joined} = live;
-        const button = (words, run) => html('button', {onclick: run, disabled: !joined}, words);
-        const count = asked?.changes.length ?? 0;
-        const bars = {
-            watching: () => [html('span', {}, 'Another page of yours draws: this one watches.'),
-                button('Draw here', () => live.takeOver())],
-            asked: () => [
-                html('span', {}, `${count} ${count > 1 ? 'changes wait' : 'change waits'} here, outlined: `
-                    + 'meanwhile your site drew elsewhere.'),
-                button('Draw them anew on the newest drawing', () => live.makeAnew()),
-                button('Drop them', () => live.drop()),
-            ],
-            refused: () => [html('span', {}, 'This is not taken yet. Mend it, or undo it.'),
-                button('Try again', () => live.sendAgain())],
-        };
-        const shows = asked ? 'asked' : bars[state] ? state : '';
-        put('#bar', `${shows} ${count} ${joined}`, () => shows ? bars[shows]() : []);
+        const {live} = this, {state, asked, joined, opened, failed, gone, needs, last, designers} = live;
+        const count = asked?.changes.length ?? 0, exhausted = state === 'refused' && live.words.includes('Exhausted');
+        const shows = asked ? 'asked' : failed && !opened ? 'closed' : exhausted ? 'limit'
+            : state === 'saved' && live.store.more ? 'more' : this.#bars[state] ? state : '';
+        const key = [shows, count, gone, joined, live.faults.size, this.drawing.done.length > 0, needs, last,
+            freeSite(designers)].join();
+        put('#bar', shows && key, () => shows ? this.#bars[shows]() : []);
     }
+
+    #bars = {
+        closed: () => [html('span', {}, PROXY)],
+        watching: () => [html('span', {}, 'Another page of yours draws: this one watches.'),
+            this.#button('Draw here', () => this.live.takeOver())],
+        asked: () => [html('span', {}, askedWords(this.live.asked.changes.length, this.live.gone)),
+            this.#button('Draw them anew on the newest drawing', () => this.live.makeAnew()),
+            this.#button('Drop them', () => this.live.drop())],
+        refused: () => [html('span', {}, `This is not taken yet. ${this.live.faults.size ? 'Mend' : 'Change'} it, or undo it.`),
+            this.#back(), this.#button('Try again', () => this.live.sendAgain())],
+        more: () => [html('span', {}, MORE), this.#button('Show them', () => location.reload())],
+        limit: () => {
+            const {needs, last, designers} = this.live, free = freeSite(designers);
+            return [html('span', {}, `${limitWords(needs, last)} ${limitNext(last, free)}`),
+                this.#back(), ...this.#other(free)];
+        },
+    };
 
     // What figgroup says of a figure stands at it.
     #bubbles() {
-        const {faults, state, words, fault} = this.live;
+        const {faults, state, words, fileFaults} = this.live;
         const bubbles = this.drawing.figures.filter(({key}) => faults.has(key)).map(figure => {
             const [left, , , bottom] = bounds(figure), [x, y] = this.canvas.pixel([left, bottom]);
             const bubble = html('p', {className: 'bubble'}, faults.get(figure.key));
@@ -164,8 +192,8 @@ export class Panels {
             bubble.style.top = `${Math.max(70, Math.min(y + 8, innerHeight - 80))}px`;
             return bubble;
         });
-        if (fault || state === 'refused' && !bubbles.length)
-            bubbles.push(html('p', {className: 'bubble middle'}, fault || (words.includes('Exhausted') ? USED_UP : words)));
+        const told = words.includes('Exhausted') || fileFaults.some(fault => words.includes(fault.words));
+        if (state === 'refused' && !bubbles.length && !told) bubbles.push(html('p', {className: 'bubble middle'}, words));
         find('#bubbles').replaceChildren(...bubbles);
     }
 
@@ -175,7 +203,8 @@ export class Panels {
     #conflicts() {
         const {figures} = this.drawing, {live} = this, found = conflicts(figures, live);
         const shown = [...found].slice(0, MOST_CARDS), more = found.size - shown.length;
-        const key = found.size ? JSON.stringify([shown, more, live.designers.length, live.mayDraw, figures.length]) : '';
+        const key = found.size ? JSON.stringify([shown, shown.map(([object]) => live.names.get(object)), more,
+            live.designers.length, live.mayDraw, figures.length]) : '';
         put('#conflicts', key, () => found.size ? [
             html('h2', {}, 'Choose a version'),
             ...shown.map(([object, versions]) => this.#card(object, versions)),
@@ -193,7 +222,7 @@ export class Panels {
         const half = .65 * Math.max(right - left, (bottom - top) * 4 / 3);
         const around = [x - half, y - half * 3 / 4, x + half, y + half * 3 / 4];
         return html('article', {},
-            html('h3', {}, `${versions.length} versions of ${figures[0].kind} ${object}`),
+            html('h3', {}, `${versions.length} versions of ${label(`${figures[0].kind} ${object}`, object, this.live)}`),
             html('div', {className: 'versions'}, ...versions.map(({figure, designer}) => {
                 const others = new Set(figures.filter(other => other !== figure).map(({key}) => key));
                 const name = whose(figure, designer, this.live);
@@ -301,7 +330,7 @@ export class Panels {
     }
 
     #help() {
-        const rows = [...TOOLS, ...WORDS].map(([, keys, tells]) => [keys.map(printed).join(', '), tells]);
+        const rows = [...TOOLS, ...WORDS].map(([, keys, tells]) => [keys.map(keycap).join(', '), tells]);
         find('#keys').append(...[...rows, ...HINTS].map(([keys, tells]) =>
             html('div', {}, html('dt', {}, keys), html('dd', {}, tells))));
     }

@@ -1,6 +1,12 @@
 // What two designers did at once: versions of an object, and deletions that crossed a change.
 import {apart} from './fig.js';
 
+// An object as a designer knows it: by the words for it, after its name if it has one.
+export function label(words, object, live) {
+    const name = live.names.get(object);
+    return name ? `${name} (${words})` : words;
+}
+
 const ATTRIBUTES = ['place', 'points', 'size', 'colour', 'layer'];
 
 // The figures of objects that have several versions, each with the designer of what tells it apart. A version that an
@@ -38,8 +44,9 @@ export function hidden(live) {
         .map(([, object, changed, operations]) => {
             const sites = operations.split(/ and | /).map(operation => operation.split('.')[0]);
             const names = [...new Set(sites.map(site => live.designer(site).name))].join(' and ');
-            const words = changed ? `${names} changed ${object}, which was deleted at the same time.`
-                : `${names} deleted ${object} at the same time.`;
+            const called = label(object, object, live);
+            const words = changed ? `${names} changed ${called}, which was deleted at the same time.`
+                : `${names} deleted ${called} at the same time.`;
             return {object, words};
         });
 }

@@ -11,11 +11,19 @@ const TOP: u16 = 9_999;
 /// How far a new layer lies from the next one where there is room.
 const GAP: u16 = 10;
 
+/// A new layer lies at most this part of the layers that are left at its end away from the next
+/// one, so that these last for some 330 figures more.
+const PART: u16 = 100;
+
 /// The layer of the first figure of an empty drawing.
 const FIRST: u16 = 1_000;
 
-/// How far layers lie apart where all are given anew.
-const STEP: u16 = 9;
+/// The lowest layer where all are given anew.
+const LOWEST: u16 = 2_000;
+
+/// How far layers lie apart where those of fewer figures than this are given anew. Those of up to
+/// twice as many lie half as far apart, and so on.
+const SPREAD: usize = 64;
 
 /// Whether a figure may stay where it stands.
 #[derive(Clone, Copy, PartialEq, Eq)]
@@ -52,22 +60,27 @@ pub(crate) struct OrderRow {
 }
 
 /// The layers of figures that are listed from the front to the back. They are raised from the back,
-/// or lowered from the front, whichever changes fewer. Where neither keeps the limits, all layers
-/// are given anew.
+/// or lowered from the front, whichever changes fewer. If that pushes many figures that were to
+/// stay, or neither keeps the limits, all layers are given anew, which makes room for long.
 pub(crate) fn layers_of(alloc: Global, rows: &[OrderRow]) -> Result<Vec<u16>, OutOfMemory> {
+    match fewest_changed(alloc, rows)? {
+        Some(layers) if are_few(pushed(rows, &layers), rows.len()) => Ok(layers),
+        _ => given_anew(alloc, rows.len()),
+    }
+}
+
+/// The layers that are raised or lowered, whichever changes fewer, if these keep the limits.
+fn fewest_changed(alloc: Global, rows: &[OrderRow]) -> Result<Option<Vec<u16>>, OutOfMemory> {
     let Some(raised) = raised(alloc, rows)? else {
-        return match lowered(alloc, rows)? {
-            Some(lowered) => Ok(lowered),
-            None => given_anew(alloc, rows.len()),
-        };
+        return lowered(alloc, rows);
     };
     let count = changed(rows, &raised);
     if count == 0 {
-        return Ok(raised);
+        return Ok(Some(raised));
     }
     match lowered(alloc, rows)? {
-        Some(lowered) if changed(rows, &lowered) < count => Ok(lowered),
-        _ => Ok(raised),
+        Some(lowered) if changed(rows, &lowered) < count => Ok(Some(lowered)),
+        _ => Ok(Some(raised)),
     }
 }
 
@@ -142,21 +155,48 @@ fn mirror_all(layers: &mut Vec<u16>) {
 fn changed(rows: &[OrderRow], layers: &[u16]) -> usize {
     let mut count = 0usize;
     for (row, layer) in rows.iter().zip(layers.iter()) {
-        match row.spot {
-            Some(spot) if spot.layer != *layer => count = count.saturating_add(1),
-            _ => {}
+        if is_changed(row, *layer) {
+            count = count.saturating_add(1);
         }
     }
     count
 }
 
-/// Layers for so many figures that are listed from the front to the back, all given anew.
+/// How many versions get another layer though their figures were to stay where they are.
+fn pushed(rows: &[OrderRow], layers: &[u16]) -> usize {
+    let mut count = 0usize;
+    for (row, layer) in rows.iter().zip(layers.iter()) {
+        if is_changed(row, *layer) && row.staying == Staying::Kept {
+            count = count.saturating_add(1);
+        }
+    }
+    count
+}
+
+/// Whether the version of a row gets another layer.
+fn is_changed(row: &OrderRow, layer: u16) -> bool {
+    match row.spot {
+        Some(spot) => spot.layer != layer,
+        None => false,
+    }
+}
+
+/// Whether so many pushed figures are few of all: at most the square root. Then as many gestures
+/// as figures push fewer than it costs to give all layers anew after each such number of pushes.
+fn are_few(pushed: usize, figures: usize) -> bool {
+    pushed.saturating_mul(pushed) <= figures
+}
+
+/// Layers for so many figures that are listed from the front to the back, all given anew. They
+/// depend on the place from the back and roughly on the number of figures alone. So designers who
+/// give layers anew at the same time give most figures the same ones, which do not conflict.
 fn given_anew(alloc: Global, count: usize) -> Result<Vec<u16>, OutOfMemory> {
     let mut layers = Vec::with_capacity(alloc, count)?;
-    let mut layer: u16 = 0;
+    let step = (SPREAD / (count / SPREAD + 1)).max(1) as u16;
+    let mut layer = LOWEST;
     for _ in 0..count {
         layers.push(layer)?;
-        layer = layer.saturating_add(STEP).min(TOP);
+        layer = layer.saturating_add(step).min(TOP);
     }
     layers.reverse();
     Ok(layers)
@@ -324,16 +364,21 @@ fn lowest_that_matters(row: &OrderRow, front: &[OrderRow]) -> Option<u16> {
     lowest
 }
 
-/// A layer between two others, if there is one: in the middle, or ten away from the one that is
+/// A layer between two others, if there is one: in the middle, or a gap away from the one that is
 /// there.
 fn room(low: Option<u16>, high: Option<u16>) -> Option<u16> {
     match (low, high) {
         (None, None) => Some(FIRST),
-        (Some(low), None) if low < TOP => Some(low.saturating_add(GAP).min(TOP)),
-        (None, Some(high)) if 0 < high => Some(if GAP <= high { high - GAP } else { 0 }),
+        (Some(low), None) if low < TOP => Some(low.saturating_add(gap_before(TOP - low)).min(TOP)),
+        (None, Some(high)) if 0 < high => Some(high.saturating_sub(gap_before(high))),
         (Some(low), Some(high)) if low.saturating_add(1) < high => Some(low + (high - low) / 2),
         _ => None,
     }
+}
+
+/// How far a new layer lies from the next one, where so many layers are left at its end.
+fn gap_before(left: u16) -> u16 {
+    (left / PART).max(1).min(GAP)
 }
 
 /// Whether a spot is above each of the figures behind, or of those that matter.

@@ -2,26 +2,10 @@
 use Rattle.std.specs.Prelude.{ℕ, List, ◌++◌, Contains, codes, flat_map, map}
 use Rattle.std.specs.Fmt.{decimal}
 use Rattle.gf_ops.specs.IdText.{id_text}
-use Rattle.gf_ops.specs.declared.faults.OpFault.{OpFault}
-use Rattle.gf_ops.specs.declared.faults.OpFault.TheVariants as fault
-use Rattle.gf_replay.specs.declared.reading_error.LineCause.{LineCause}
-use Rattle.gf_replay.specs.declared.reading_error.LineCause.TheVariants as cause
+use Rattle.gf_ops.specs.FaultWords.{fault_word}
+use Rattle.gf_replay.specs.CauseWords.{cause_word}
 use Rattle.gf_replay.specs.declared.reading_error.ReadingError.{ReadingError}
 use Rattle.gf_replay.specs.declared.reading_error.ReadingError.TheVariants as reading
-
--- the word for the cause of a line's fault
-abbrev pub cause_word : LineCause → List ℕ
-cause_word cause.Json = codes "Json"
-cause_word cause.Field = codes "Field"
-cause_word cause.Range = codes "Range"
-cause_word cause.Clash = codes "Clash"
-
--- the word for an operation's fault
-abbrev pub fault_word : OpFault → List ℕ
-fault_word fault.BadClock = codes "BadClock"
-fault_word fault.NoObject = codes "NoObject"
-fault_word fault.WrongKind = codes "WrongKind"
-fault_word fault.BadAim = codes "BadAim"
 
 -- where a fault is, and which one it is
 abbrev pub fault_head : ReadingError → List ℕ

@@ -1,8 +1,7 @@
 //! The lines that tell faults.
 
 ghost use Rattle.std.specs.Prelude.{◌≡◌, ◌++◌, codes, OnOk};
-ghost use Rattle.gf_check.specs.FaultLines.{cause_word, fault_head, fault_word};
-ghost use Rattle.gf_check.specs.FaultLines.{told_line};
+ghost use Rattle.gf_check.specs.FaultLines.{fault_head, told_line};
 
 use gf_base::{OutOfMemory, push_number};
 use gf_ops::{OpFault, OpId, push_id};
@@ -42,7 +41,7 @@ fn push_line(text: &mut Vec<u8>, number: u64, cause: LineCause) -> Result<(), Al
     text.extend_from_slice(b"line ")?;
     push_number(text, number)?;
     text.extend_from_slice(b": ")?;
-    text.extend_from_slice(cause_word(cause))
+    text.extend_from_slice(cause.word().as_bytes())
 }
 
 fn push_operation(text: &mut Vec<u8>, id: OpId, fault: OpFault) -> Result<(), AllocError>
@@ -52,27 +51,5 @@ fn push_operation(text: &mut Vec<u8>, id: OpId, fault: OpFault) -> Result<(), Al
     text.extend_from_slice(b"operation ")?;
     push_id(text, id)?;
     text.extend_from_slice(b": ")?;
-    text.extend_from_slice(fault_word(fault))
-}
-
-fn cause_word(cause: LineCause) -> &'static [u8]
-    ensures { result.now ≡ cause_word cause }
-{
-    match cause {
-        LineCause::Json => b"Json",
-        LineCause::Field => b"Field",
-        LineCause::Range => b"Range",
-        LineCause::Clash => b"Clash",
-    }
-}
-
-fn fault_word(fault: OpFault) -> &'static [u8]
-    ensures { result.now ≡ fault_word fault }
-{
-    match fault {
-        OpFault::BadClock => b"BadClock",
-        OpFault::NoObject => b"NoObject",
-        OpFault::WrongKind => b"WrongKind",
-        OpFault::BadAim => b"BadAim",
-    }
+    text.extend_from_slice(fault.word().as_bytes())
 }

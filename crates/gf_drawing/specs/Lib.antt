@@ -1,1 +1,2 @@
 pub mod CanonicalDrawing
+pub mod FaultWords

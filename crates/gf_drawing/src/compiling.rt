@@ -6,6 +6,7 @@ ghost use Rattle.gf_ops.specs.ConflictTests.{colour_eq};
 ghost use Rattle.gf_versions.specs.declared.ranking.TheConstants.{MOST_VERSIONS};
 ghost use Rattle.gf_drawing.specs.CanonicalDrawing.{Fits, canonical_drawing, canonical_table};
 ghost use Rattle.gf_drawing.specs.CanonicalDrawing.{colours_of, number_of};
+ghost use Rattle.gf_drawing.specs.FaultWords.{fault_word};
 
 use gf_base::OutOfMemory;
 use gf_figures::{Drawing, Figure};
@@ -13,7 +14,7 @@ use gf_shape::{Rgb, Shape};
 use gf_versions::{MOST_VERSIONS, Placed, Ranked};
 use indexmap::IndexSet;
 use std::alloc::Global;
-use thiserror::Error;
+use std::fmt;
 
 /// The number of the first colour that a drawing adds.
 const FIRST_NUMBER: u16 = 32;
@@ -22,18 +23,31 @@ const FIRST_NUMBER: u16 = 32;
 const MOST_COLOURS: usize = 512;
 
 /// Why ranked versions have no drawing.
-#[derive(Clone, Copy, Debug, PartialEq, Eq, Error)]
+#[derive(Clone, Copy, Debug, PartialEq, Eq)]
 pub enum CompileFault {
     /// More than 1,000 versions are visible.
-    #[error("TooManyVersions")]
     TooManyVersions,
     /// At most 1,000 versions are visible, and they have more than 512 distinct colours.
-    #[error("TooManyColours")]
     TooManyColours,
     /// A growth of memory was refused.
-    #[error("out of memory")]
     OutOfMemory,
 }
+
+impl fmt::Display for CompileFault {
+    ghost use Rattle.std.specs.Prelude.{Some};
+
+    ghost output = { λ f. Some (fault_word f) };
+
+    fn fmt<W: fmt::Write>(&self, f: &mut fmt::Formatter<W>) -> fmt::Result {
+        f.write_str(match self {
+            CompileFault::TooManyVersions => "TooManyVersions",
+            CompileFault::TooManyColours => "TooManyColours",
+            CompileFault::OutOfMemory => "out of memory",
+        })
+    }
+}
+
+impl std::error::Error for CompileFault {}
 
 impl From<OutOfMemory> for CompileFault {
     ghost use Rattle.gf_drawing.specs.declared.compiling.CompileFault.{CompileFault};

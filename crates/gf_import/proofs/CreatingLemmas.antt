@@ -25,8 +25,9 @@ use Rattle.gf_objects.specs.declared.figure_fault.FigureFault.TheVariants as fau
 use Rattle.gf_objects.specs.StartFaults.{figure_fault, form_fault}
 use Rattle.gf_import.specs.CreationFaults.{IsFirstFault, made, or_fault}
 use Rattle.gf_objects.specs.StartFaults.{points_fault, unless}
-use Rattle.gf_objects.specs.Boxes.{is_box, point_at}
+use Rattle.gf_objects.specs.Boxes.{is_box}
 use Rattle.gf_objects.specs.Objects.{form_of, place_of, seen_from}
+use Rattle.gf_objects.specs.Places.{polygon_place}
 use Rattle.gf_import.specs.Importing.{creation_of, creations_of}
 use Rattle.gf_import.specs.Imported.{IsImportable}
 
@@ -96,7 +97,7 @@ form_fits (Oval oval) lawful e = unless_none (is_size oval.rx && is_size oval.ry
 form_fits (Chain ring) lawful e = elim (cases_Bool (is_box ring)) [
   | inl t ↦ rw t (unless_none _ fault.Size (rw t at e))
   | inr f ↦
-      let o = point_at ring.points 0 in
+      let o = polygon_place ring.points in
       let n = seen_length o ring.points in
       let least = lawful.least in
       rw f (polygon_fits (seen_from o ring.points) (omega arith) (rw f at e))

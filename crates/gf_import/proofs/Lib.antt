@@ -9,3 +9,4 @@ pub mod LineLemmas
 pub mod RefusalLemmas
 pub mod RunLemmas
 pub mod NotRefusedLemmas
+pub mod ShownLemmas

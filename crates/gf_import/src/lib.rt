@@ -7,6 +7,7 @@
 //! - [`the_creations_paint_the_drawing`], [`what_is_imported_paints_the_drawing`]: the laws of the
 //!   history that a site makes of the creations.
 //! - [`what_can_be_imported_is_not_refused`]: the law that a success rules a refusal out.
+//! - [`what_a_history_shows_can_be_imported`]: the law that an import takes all that is exported.
 #![tactic(auto)]
 
 mod creating;
@@ -20,7 +21,7 @@ pub use creating::creations;
 pub use creation_error::CreationError;
 pub use import_error::ImportError;
 pub use laws::{
-    the_creations_paint_the_drawing, what_can_be_imported_is_not_refused,
-    what_is_imported_paints_the_drawing,
+    the_creations_paint_the_drawing, what_a_history_shows_can_be_imported,
+    what_can_be_imported_is_not_refused, what_is_imported_paints_the_drawing,
 };
 pub use run::import_run;

@@ -18,6 +18,7 @@ use Rattle.gf_shape.specs.Laws.Parity.{polygon_holds_as_chain}
 use Rattle.gf_versions.specs.Visible.{form_holds}
 use Rattle.gf_objects.specs.Boxes.{are_corners, is_box, point_at}
 use Rattle.gf_objects.specs.Objects.{form_of, place_of, seen_from}
+use Rattle.gf_objects.specs.Places.{polygon_place}
 use Rattle.gf_objects.proofs.CornerLemmas.{corners_hold}
 
 -- a list whose last element is z is its front with z behind it
@@ -82,5 +83,5 @@ form_holds-outline (Chain ring) p lawful = elim (cases_Bool (is_box ring)) [
       let parts = and_parts ring.boxed (are_corners a b c d) t in
       let points = five_points ring.points (lawful.box parts.0) lawful.closed in
       rw t (sym (corners_hold a b c d p parts.1) ∙ ap (λ qs. chain_holds qs p) (sym points))
-  | inr f ↦ rw f (chain_as_polygon (point_at ring.points 0) ring p lawful)
+  | inr f ↦ rw f (chain_as_polygon (polygon_place ring.points) ring p lawful)
 ]

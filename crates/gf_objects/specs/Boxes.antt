@@ -2,7 +2,7 @@
 -- come in any order round the box, this project's choice).
 use Rattle.std.specs.Prelude.{ℕ, ℤ, ◌-ℤ◌, unsigned_abs, Bool, not, ◌&&◌, ◌||◌, List}
 use Rattle.std.specs.Prelude.{slice_get, unwrap_or}
-use Rattle.std.specs.Int.{int_min}
+use Rattle.std.specs.Int.{int_max, int_min}
 use Rattle.std.specs.Ordering.{int_eq}
 use Rattle.gf_plane.specs.declared.point.Point.{Point}
 use Rattle.gf_shape.specs.Ring.{Ring}
@@ -37,9 +37,13 @@ abbrev pub is_box : Ring → Bool
 is_box r = r.boxed && are_corners (point_at r.points 0) (point_at r.points 1)
     (point_at r.points 2) (point_at r.points 3)
 
--- the lesser of both coordinates of two opposite corners
+-- the lesser of both coordinates of two points
 abbrev pub least_corner : Point → Point → Point
 least_corner a c = record { x = int_min a.x c.x; y = int_min a.y c.y }
+
+-- the greater of both coordinates of two points
+abbrev pub greatest_corner : Point → Point → Point
+greatest_corner a c = record { x = int_max a.x c.x; y = int_max a.y c.y }
 
 -- the box with the opposite corners a and c
 abbrev pub box_form : Point → Point → Form

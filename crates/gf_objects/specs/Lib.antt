@@ -1,3 +1,4 @@
 pub mod Boxes
+pub mod Places
 pub mod Objects
 pub mod StartFaults

@@ -13,18 +13,18 @@ use Rattle.gf_figures.specs.declared.figure.Figure.{Figure}
 use Rattle.gf_figures.specs.Colours.{Table}
 use Rattle.gf_figures.specs.DrawingColour.{figure_colour}
 use Rattle.gf_objects.specs.Boxes.{box_form, is_box, least_corner, point_at}
+use Rattle.gf_objects.specs.Places.{polygon_place}
 
 -- the points of the chain ps without the last one, each seen from o
 abbrev pub seen_from : Point → List Point → List Point
 seen_from o ps = map (λ p. minus p o) (opened ps)
 
--- the place of what an outline becomes: a box's least corner, another chain's first point, or a
--- centre
+-- the place of what an outline becomes: a box's least corner, that of a polygon, or a centre
 abbrev pub place_of : Outline → Point
 place_of (Chain ring) =
     if is_box ring
     then least_corner (point_at ring.points 0) (point_at ring.points 2)
-    else point_at ring.points 0
+    else polygon_place ring.points
 place_of (Disc disc) = disc.centre
 place_of (Oval oval) = oval.centre
 
@@ -33,7 +33,7 @@ abbrev pub form_of : Outline → Form
 form_of (Chain ring) =
     if is_box ring
     then box_form (point_at ring.points 0) (point_at ring.points 2)
-    else Polygon (seen_from (point_at ring.points 0) ring.points)
+    else Polygon (seen_from (polygon_place ring.points) ring.points)
 form_of (Disc disc) = Circle disc.radius
 form_of (Oval oval) = Ellipse oval.rx oval.ry
 

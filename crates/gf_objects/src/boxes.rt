@@ -2,7 +2,7 @@
 
 ghost use Rattle.std.specs.Prelude.{◌≡◌};
 ghost use Rattle.gf_objects.specs.Boxes.{are_between, are_corners, are_opposite, box_form, is_at};
-ghost use Rattle.gf_objects.specs.Boxes.{is_box, least_corner, point_at};
+ghost use Rattle.gf_objects.specs.Boxes.{greatest_corner, is_box, least_corner, point_at};
 
 use gf_ops::Form;
 use gf_shape::{Chain, Point};
@@ -58,13 +58,23 @@ fn is_at(p: Point, x: i32, y: i32) -> bool
     p == Point { x, y }
 }
 
-/// The least corner of the box with these opposite corners.
+/// The lesser of both coordinates of two points.
 pub(crate) fn least_corner(a: Point, c: Point) -> Point
     ensures { result ≡ least_corner a c }
 {
     Point {
         x: a.x.min(c.x),
         y: a.y.min(c.y),
+    }
+}
+
+/// The greater of both coordinates of two points.
+pub(crate) fn greatest_corner(a: Point, c: Point) -> Point
+    ensures { result ≡ greatest_corner a c }
+{
+    Point {
+        x: a.x.max(c.x),
+        y: a.y.max(c.y),
     }
 }
 

@@ -10,6 +10,7 @@ mod boxes;
 mod figure_fault;
 mod limits;
 mod making;
+mod places;
 
 pub use figure_fault::FigureFault;
 pub use limits::start_fault;

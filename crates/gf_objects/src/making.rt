@@ -11,6 +11,7 @@ ghost use Rattle.gf_figures.specs.DrawingColour.{figure_colour};
 ghost use Rattle.gf_objects.specs.Objects.{form_of, place_of, seen_from, start_of};
 
 use crate::boxes::{box_form, is_box, least_corner, point_at};
+use crate::places::polygon_place;
 use gf_base::OutOfMemory;
 use gf_figures::{Drawing, Figure};
 use gf_ops::{Form, Points, Start};
@@ -75,7 +76,7 @@ fn chain_place(chain: &Chain) -> Point
     if is_box(chain) {
         least_corner(point_at(points, 0), point_at(points, 2))
     } else {
-        point_at(points, 0)
+        polygon_place(points)
     }
 }
 
@@ -90,7 +91,7 @@ pub fn form_of(alloc: Global, outline: &Outline) -> Result<Form, OutOfMemory>
             if is_box(chain) {
                 Ok(box_form(point_at(points, 0), point_at(points, 2)))
             } else {
-                let seen = seen_from(alloc, point_at(points, 0), points)?;
+                let seen = seen_from(alloc, polygon_place(points), points)?;
                 Ok(Form::Polygon(Points::new(seen)))
             }
         }

@@ -19,3 +19,4 @@ pub mod Standing
 pub mod HistoryState
 pub mod HistoryIndex
 pub mod IdText
+pub mod FaultWords

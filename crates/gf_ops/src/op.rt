@@ -1,6 +1,7 @@
 //! Operations and their names.
 
-ghost use Rattle.std.specs.Prelude.{◌≡◌, ◌↔◌, IsTrue};
+ghost use Rattle.std.specs.Prelude.{◌≡◌, ◌↔◌, IsTrue, Some};
+ghost use Rattle.gf_ops.specs.IdText.{id_text};
 ghost use Rattle.gf_ops.specs.OperationOrder.{entry};
 ghost use Rattle.gf_ops.specs.ValidHistory.{IsWithin};
 
@@ -15,6 +16,8 @@ pub struct OpId {
 }
 
 impl fmt::Display for OpId {
+    ghost output = { λ i. Some (id_text i) };
+
     fn fmt<W: fmt::Write>(&self, f: &mut fmt::Formatter<W>) -> fmt::Result {
         write!(f, "{}.{}", self.site, self.seq)
     }

@@ -5,3 +5,4 @@ pub mod Waiting
 pub mod LineSteps
 pub mod Blocks
 pub mod Behind
+pub mod CauseWords

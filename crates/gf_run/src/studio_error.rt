@@ -1,6 +1,7 @@
 //! Why a run was refused.
 
 ghost use Rattle.std.specs.Prelude.{◌≡◌};
+ghost use Rattle.gf_run.specs.ErrorTexts.{error_text};
 ghost use Rattle.gf_run.specs.Refusals.{of_input, of_reading, of_compile, of_fig, of_write};
 
 use gf_drawing::CompileFault;
@@ -8,40 +9,51 @@ use gf_fig_read::{FigError, FigFault};
 use gf_ops::{ObjectId, OpFault, OpId};
 use gf_replay::{LineCause, ReadingError};
 use gf_streams::{InputError, WriteError};
-use thiserror::Error;
+use std::fmt;
 
 /// Why a run was refused.
-#[derive(Clone, Copy, Debug, PartialEq, Eq, Error)]
+#[derive(Clone, Copy, Debug, PartialEq, Eq)]
 pub enum StudioError {
     /// The source failed before its end was seen.
-    #[error("read failed")]
     ReadFailed,
     /// The input has more than 16,777,216 bytes.
-    #[error("input too long")]
     TooLong,
     /// The line of this number, counted from 1, is no operation, or another one under an earlier
     /// id.
-    #[error("line {0}: {1}")]
     Line(u64, LineCause),
     /// The operation of this id came in its turn and doesn't fit behind those before it.
-    #[error("operation {0} dropped: {1}")]
     Dropped(OpId, OpFault),
     /// The FIG text reads as no drawing.
-    #[error("{0}")]
     Fig(FigError),
     /// The history has no drawing.
-    #[error("export refused: {0}")]
     Compile(CompileFault),
     /// The history has no such object.
-    #[error("no object {}", .0.0)]
     NoObject(ObjectId),
     /// The sink failed before it had all the bytes, or as it was flushed.
-    #[error("write failed")]
     WriteFailed,
     /// A growth of memory was refused.
-    #[error("out of memory")]
     OutOfMemory,
 }
+
+impl fmt::Display for StudioError {
+    ghost output = { error_text };
+
+    fn fmt<W: fmt::Write>(&self, f: &mut fmt::Formatter<W>) -> fmt::Result {
+        match self {
+            StudioError::ReadFailed => f.write_str("read failed"),
+            StudioError::TooLong => f.write_str("input too long"),
+            StudioError::Line(number, cause) => write!(f, "line {number}: {cause}"),
+            StudioError::Dropped(id, fault) => write!(f, "operation {id} dropped: {fault}"),
+            StudioError::Fig(error) => write!(f, "{error}"),
+            StudioError::Compile(fault) => write!(f, "export refused: {fault}"),
+            StudioError::NoObject(object) => write!(f, "no object {}", object.0),
+            StudioError::WriteFailed => f.write_str("write failed"),
+            StudioError::OutOfMemory => f.write_str("out of memory"),
+        }
+    }
+}
+
+impl std::error::Error for StudioError {}
 
 impl From<InputError> for StudioError {
     ghost from_gives = { λ fault e. e ≡ of_input fault };

@@ -25,7 +25,6 @@ impl fmt::Display for SessionRunError {
 
     fn fmt<W: fmt::Write>(&self, f: &mut fmt::Formatter<W>) -> fmt::Result {
         match self {
-            SessionRunError::Run(StudioError::OutOfMemory) => f.write_str("out of memory"),
             SessionRunError::Run(error) => write!(f, "{error}"),
             SessionRunError::Session(error) => write!(f, "{error}"),
         }

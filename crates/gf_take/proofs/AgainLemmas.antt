@@ -34,7 +34,8 @@ use Rattle.gf_versions.proofs.LimitLemmas.{version_fits}
 use Rattle.gf_figures.specs.declared.figure.Figure.{Figure}
 use Rattle.gf_figures.specs.Colours.{Table}
 use Rattle.gf_figures.specs.DrawingColour.{figure_colour}
-use Rattle.gf_objects.specs.Boxes.{are_opposite, is_at, is_box, point_at}
+use Rattle.gf_objects.specs.Boxes.{are_opposite, is_at, is_box}
+use Rattle.gf_objects.specs.Places.{polygon_place}
 use Rattle.gf_take.specs.ShownDrawing.{look_at, look_of, shape_become}
 use Rattle.gf_take.specs.Matching.{AreTraced, trace}
 
@@ -99,7 +100,7 @@ points_back o (p ∷ ps) =
 polygon_again : (ps : List Point) → shape_become (any_outline (any.Polygon ps)) ≡ any.Polygon ps
 polygon_again ps =
     let ring = (ring_of ps).points in
-    ap any.Polygon (points_back (point_at ring 0) (opened ring) ∙ opened-ring_of ps)
+    ap any.Polygon (points_back (polygon_place ring) (opened ring) ∙ opened-ring_of ps)
 
 circle_again : (r : Round) → shape_become (any_outline (any.Circle r)) ≡ any.Circle r
 circle_again r =

@@ -30,6 +30,7 @@ use Rattle.gf_figures.specs.DrawingColour.{figure_colour, from_front}
 use Rattle.gf_figures.specs.DrawingState.{DrawingState}
 use Rattle.gf_objects.specs.Boxes.{are_corners, are_opposite, is_box, least_corner}
 use Rattle.gf_objects.specs.Boxes.{point_at}
+use Rattle.gf_objects.specs.Places.{polygon_place}
 use Rattle.gf_objects.specs.Objects.{form_of, place_of}
 use Rattle.gf_take.specs.Matching.{AreShown, AreTraced, IsTraced, trace}
 use Rattle.gf_take.specs.ShownDrawing.{Look, LooksLike, ShowsDrawing, look_at, look_of}
@@ -114,7 +115,7 @@ open_chain ps = Chain (record { boxed = false; points = ps })
 polygon_back : (ring : Ring) → IsRing ring → is_box ring ≡ false
     → any_outline (shape_become (Chain ring)) ≡ open_chain ring.points
 polygon_back ring lawful f =
-    let o = point_at ring.points 0 in
+    let o = polygon_place ring.points in
     let shape : shape_become (Chain ring) ≡ any.Polygon (opened ring.points) =
     rw f (ap any.Polygon (points_back o (opened ring.points))) in
     ap any_outline shape ∙ ap open_chain (ring_again ring.points lawful.least lawful.closed)

@@ -98,10 +98,14 @@ module _ (table : Table) where
         colour = ap (λ (x : Form × Point × Rgb). x.2) same;
       }
 
+  abbrev behind_first : List (Form × Point × Rgb) → List (Form × Point × Rgb)
+  behind_first [] = []
+  behind_first (x ∷ xs) = xs
+
   tail_traced : (i : Placed AnyShape) (items : List (Placed AnyShape)) (f : Figure Outline)
       (fs : List (Figure Outline)) → AreTraced table (i ∷ items) (f ∷ fs) → AreTraced table items fs
   tail_traced i items f fs t = record {
-    same = let e = t.same in let rest : map of_item items ≡ map of_figure fs = cc in rest;
+    same = ap behind_first t.same;
     lawful = All-tail (λ (g : Figure Outline). IsLawful g.shape) f fs t.lawful;
   }
 

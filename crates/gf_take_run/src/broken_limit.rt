@@ -31,6 +31,6 @@ fn advice(fault: FigureFault) -> &'static str {
         FigureFault::Place => "lies beyond 1000000: move it",
         FigureFault::Size => "is larger than 1000000: scale it down",
         FigureFault::Points => "has more than 64 corners: delete some",
-        FigureFault::Point => "reaches further than 1000000: scale it down",
+        FigureFault::Point => "is wider or higher than 2000000: scale it down",
     }
 }

@@ -1,0 +1,236 @@
+#!/usr/bin/python3
+"""What was reported as saved stays, whatever git, another program or a full disk does to a site file."""
+import asyncio
+import os
+import pathlib
+import subprocess
+import sys
+import tempfile
+import threading
+import time
+import unittest
+
+from client import Client, Heard, box, drawing
+from helpers import PAGE, wait
+from test_serve import ServeTest
+
+sys.path[:0] = [str(PAGE)]
+import sitefile
+
+
+def boxes(count: int, y: int = 0) -> str:
+    return drawing(*(box(500 * i, y) for i in range(count)))
+
+
+class LostTest(ServeTest):
+    def setUp(self) -> None:
+        self.server = Heard()
+        self.path = self.server.folder / 'site-1.jsonl'
+
+    async def drawn(self, count: int) -> Client:
+        client = await self.client()
+        for i in range(count):
+            self.assertEqual(i + 1, (await client.take(boxes(i + 1), after=i)).get('taken'))
+        return client
+
+    def numbers(self) -> list[int]:
+        return [operation['id'][1] for operation in self.server.operations(1)]
+
+    async def becomes(self, content: bytes) -> None:
+        """Waits until the file of site 1 has this."""
+        await asyncio.to_thread(wait, lambda: self.path.exists() and self.path.read_bytes() == content, 10)
+
+
+class FallsBack(LostTest):
+    async def test_to_a_beginning(self) -> None:
+        """A file that is cut, emptied, replaced by an older one or gone gets its lines again, and its site draws on."""
+        client = await self.drawn(3)
+        whole = self.path.read_bytes()
+        first = whole[:whole.index(b'\n') + 1]
+        old = self.server.folder / 'old'
+        for how in (lambda: self.path.write_bytes(first), lambda: self.path.write_bytes(whole[:len(first) + 40]),
+                    lambda: self.path.write_bytes(b''), self.path.unlink, lambda: (old.write_bytes(first), old.rename(self.path))):
+            how()
+            await self.becomes(whole)
+        self.path.write_bytes(first)
+        self.assertEqual(4, (await client.take(boxes(4), after=3)).get('taken'))  # at once, without a look between
+        self.assertEqual([1, 2, 3, 4], self.numbers())
+        self.assertEqual('', self.server.figgroup('check'))
+
+    async def test_git(self) -> None:
+        """git stash and git checkout beside an open page, as each designer may type them."""
+        git = lambda *words: subprocess.run(['git', '-c', 'user.name=A', '-c', 'user.email=a@b', *words], cwd=self.server.folder,
+                                            check=True, capture_output=True)
+        client = await self.drawn(3)
+        git('init', '-q')
+        git('add', 'site-1.jsonl')
+        git('commit', '-qm', 'three')
+        for i in (3, 4):
+            await client.take(boxes(i + 1), after=i)
+        other = await self.client(2)
+        while '# figgroup knows 1.5' not in (other.text or ''):
+            await other.hear('drawing')
+        await other.take(other.text + box(9000, 9000))  # an operation that knows 1.5
+        whole = self.path.read_bytes()
+        for words in (['stash'], ['checkout', 'HEAD', '--', 'site-1.jsonl'], ['reset', '--hard']):
+            git(*words)
+            await self.becomes(whole)
+        while '# figgroup knows 1.5 2.1' not in (client.text or ''):
+            await client.hear('drawing')
+        said = await client.take(client.text + box(0, 20000), after=5)
+        self.assertEqual(6, said.get('taken'), said)
+        self.assertEqual([1, 2, 3, 4, 5, 6], self.numbers())
+        self.assertEqual('', self.server.figgroup('check'))
+
+    async def test_while_it_draws(self) -> None:
+        """A file that falls back again and again while its page draws: each operation that was taken is there once."""
+        client = await self.drawn(2)
+        first, ended = self.path.read_bytes(), threading.Event()
+
+        def fall_back() -> None:
+            for i in range(60):
+                if i % 2:
+                    self.path.write_bytes(first)
+                else:
+                    (self.server.folder / 'old').write_bytes(first)
+                    (self.server.folder / 'old').rename(self.path)
+                time.sleep(.02)
+            ended.set()
+
+        thread = threading.Thread(target=fall_back)
+        thread.start()
+        self.addCleanup(thread.join)
+        count = 2
+        while not ended.is_set():
+            request, said = f'{client.page}.{100 + count}', {'again': ''}
+            while 'again' in said:
+                said = await client.take(boxes(count + 1), after=count, request=request)
+            count += 1
+            self.assertEqual(count, said.get('taken'), said)
+        thread.join()
+        await asyncio.to_thread(wait, lambda: self.numbers() == list(range(1, count + 1)), 10, lambda: str(self.numbers()))
+        self.assertEqual(count, self.server.figgroup('fig').count('\n2 2 '))
+
+    async def test_changed_lines(self) -> None:
+        """They stop their own site, and the earlier ones are kept, also when the server is begun again."""
+        client, other = await self.drawn(2), await self.client(2)
+        whole = self.path.read_bytes()
+        self.path.write_bytes(whole.replace(b'"place":[500', b'"place":[700'))
+        fault = await other.fault('lines changed')
+        self.assertIn('cp drawing.kept-1 site-1.jsonl', fault)
+        kept = self.server.folder / 'drawing.kept-1'
+        self.assertEqual(whole, kept.read_bytes())
+        self.assertEqual(fault, (await client.take(boxes(3), after=2))['refused'])
+        self.assertEqual(1, (await other.take(boxes(1, 5000)))['taken'])
+        self.path.write_bytes(whole)
+        await client.right()
+        self.assertEqual(3, (await client.take(boxes(3), after=2))['taken'])
+        self.path.write_bytes(whole.replace(b'"place":[500', b'"place":[800'))  # more was kept now, in the same file
+        await asyncio.to_thread(wait, lambda: kept.read_bytes().count(b'\n') == 3, 10)
+        self.server.kill()
+        self.server.start()
+        self.assertIn('draw: drawing.kept-1 has lines that site-1.jsonl lost', self.server.said())
+
+
+class OtherPrograms(LostTest):
+    """Other programs at the very moment of an append, which a test can only meet from within."""
+
+    def setUp(self) -> None:
+        super().setUp()
+        self.server.kill()
+        self.file = sitefile.SiteFile(str(self.server.folder), 1)
+        self.line = b'{"id":[1,%d]}\n'
+        self.path.write_bytes(self.line % 1)
+        self.file.read_more()
+        self.add = sitefile.add
+        self.addCleanup(setattr, sitefile, 'add', self.add)
+
+    def append(self, number: int) -> bool:
+        with self.file.lock() as held:
+            self.file.mend(held)
+            self.file.read_more()
+            return self.file.append(held, self.line % number, 'page', number)
+
+    def test_adds_at_the_same_time(self) -> None:
+        """Lines that come before and after are known, and the end of the file is right."""
+        for before, after in ((True, False), (False, True), (True, True)):
+            def add(held: object, new: bytes) -> None:
+                number = sitefile.id_of(new)[1]
+                with open(self.path, 'ab') as file:
+                    file.write(self.line % (number + 1) if before else b'')
+                self.add(held, new)
+                with open(self.path, 'ab') as file:
+                    file.write(self.line % (number + 2) if after else b'')
+            sitefile.add = add
+            self.assertFalse(self.append(self.file.last + 1))
+            self.assertEqual(self.path.read_bytes(), self.file.lines)
+        sitefile.add = self.add
+        self.file.read_more()
+        self.assertTrue(self.append(self.file.last + 1))
+        self.assertEqual(self.path.read_bytes(), self.file.lines)
+
+    def test_replaces_the_file(self) -> None:
+        """What went into a file that lost its name is not reported as taken; it is added when it is asked again."""
+        for replace in (lambda: (part.write_bytes(self.line % 1), part.rename(self.path)), lambda: self.path.write_bytes(b'')):
+            part = self.server.folder / 'part'
+            def add(held: object, new: bytes) -> None:
+                self.add(held, new)
+                replace()
+            sitefile.add, last = add, self.file.last
+            with self.assertRaises(OSError):
+                self.append(last + 1)
+            sitefile.add = self.add
+            with self.file.lock() as held:
+                self.file.mend(held)
+            self.file.read_more()
+            self.assertEqual((self.line % (last + 1), last + 1), self.file.made_by('page', last + 1))
+            self.assertEqual(self.path.read_bytes(), self.file.lines)
+            self.assertEqual(b''.join(self.line % (i + 1) for i in range(last + 1)), self.file.lines)
+
+
+class FullDisk(LostTest):
+    def setUp(self) -> None:
+        if os.getuid():
+            self.skipTest('only root can make a small disk')
+        self.disk = tempfile.mkdtemp(prefix='page-')
+        subprocess.run(['mount', '-t', 'tmpfs', '-o', 'size=128k', 'tmpfs', self.disk], check=True)
+        self.server = Heard(folder=f'{self.disk}/drawing', start=False)
+        self.server.folder.mkdir()
+        self.path = self.server.folder / 'site-1.jsonl'
+        self.server.start()
+
+    def tearDown(self) -> None:
+        self.server.kill()
+        subprocess.run(['umount', '-l', self.disk], check=True)
+        os.rmdir(self.disk)
+
+    async def test_full_disk(self) -> None:
+        """No half line stays, the server begins on a full disk, and with room the last change is there once."""
+        client, count = await self.drawn(20), 20
+        free = os.statvfs(self.disk)
+        (pathlib.Path(self.disk) / 'filler').write_bytes(bytes(free.f_bavail * free.f_bsize - 3 * 4096))
+        said = {}
+        while 'again' not in said:
+            count += 1
+            said = await client.take(boxes(count), after=count - 1, request=f'{client.page}.{count}')
+            self.assertIn(next(iter(said)), ('taken', 'again'), said)
+        self.assertIn('No space left on device', said['again'])
+        self.assertTrue(self.path.read_bytes().endswith(b'\n'))
+        self.assertEqual(list(range(1, count)), self.numbers())
+        self.assertEqual('', self.server.figgroup('check'))
+        self.server.kill()
+        self.server.start()
+        self.assertNotIn('Traceback', self.server.said())
+        again = await self.client()
+        self.assertEqual(list(range(1, count)), self.numbers())
+        os.unlink(f'{self.disk}/filler')
+        said = {'again': ''}
+        while 'again' in said:
+            said = await again.take(boxes(count), after=count - 1, request=f'{client.page}.{count}')
+        self.assertEqual(count, said.get('taken'), said)
+        self.assertEqual(list(range(1, count + 1)), self.numbers())
+        self.assertNotIn('Traceback', self.server.said())
+
+
+if __name__ == '__main__':
+    unittest.main(verbosity=2)
