@@ -32,7 +32,7 @@ COMMANDS = {
     "c": ("check", "gf_check.check_run"),
     "k": ("take", "gf_take_run.take_run"),
     "s": ("session", "gf_session_run.session_run"),
-    "v": ("serve", "gf_serve.serve_run"),
+    "v": ("serve", "gf_serve.serve_run gf_serve.Dialogue.turn"),
     "w": ("the words of a command line", "gf_command.command"),
 }
 # Some clauses of `fig_run`, and what they promise; the others promise each byte of what is written.

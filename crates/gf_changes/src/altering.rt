@@ -221,8 +221,9 @@ fn first_without(shown: ShownVersions<'_>, matching: &Matching, object: ObjectId
     None
 }
 
-/// Hides the versions of an object that are no figures. The object is hidden whole, and each
-/// version that stays is shown again.
+/// Hides the versions of an object that are no figures, each by a change that is aimed at what no
+/// version that stays has. The topmost version that stays is shown, so that it is still seen if
+/// somebody hides it at the same time. If none stays, the object is hidden whole.
 fn hide_of(
     alloc: Global,
     shown: ShownVersions<'_>,
@@ -230,21 +231,28 @@ fn hide_of(
     object: ObjectId,
     changes: &mut Vec<Change>,
 ) -> Result<(), OutOfMemory> {
-    let mut whole = Vec::new(alloc);
-    whole.push(Change::set_shown(object, false, Ids::new(Vec::new(alloc))))?;
-    for rank in shown.of_object(object) {
-        if let Some(version) = shown.versions.get(rank.index) {
-            if matching.has_figure(rank.index) {
-                let aim = aim_to_keep(alloc, shown.history, &version.key)?;
-                if MOST_AIMED < aim.as_slice().len() {
-                    return hide_each(alloc, shown, matching, object, changes);
-                }
-                whole.push(Change::set_shown(object, true, aim))?;
-            }
+    let Some(index) = first_with(shown, matching, object) else {
+        changes.push(Change::set_shown(object, false, Ids::new(Vec::new(alloc))))?;
+        return Ok(());
+    };
+    hide_each(alloc, shown, matching, object, changes)?;
+    if let Some(version) = shown.versions.get(index) {
+        let aim = aim_to_keep(alloc, shown.history, &version.key)?;
+        if aim.as_slice().len() <= MOST_AIMED {
+            changes.push(Change::set_shown(object, true, aim))?;
         }
     }
-    changes.append(&mut whole)?;
     Ok(())
+}
+
+/// The index of the first version of an object that is a figure, if there is one.
+fn first_with(shown: ShownVersions<'_>, matching: &Matching, object: ObjectId) -> Option<usize> {
+    for rank in shown.of_object(object) {
+        if matching.has_figure(rank.index) {
+            return Some(rank.index);
+        }
+    }
+    None
 }
 
 /// Hides each version of an object that is no figure, aimed at what tells it from the others.

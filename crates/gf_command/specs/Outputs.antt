@@ -22,6 +22,7 @@ use Rattle.gf_check.specs.AllFaults.{AnswersText}
 use Rattle.gf_check.specs.declared.checks.Verdict.TheVariants as verdict
 use Rattle.gf_check.specs.CheckRun.{WritesCheck}
 use Rattle.gf_session_run.specs.SessionRun.{TellsSession, WritesSession}
+use Rattle.gf_serve.specs.declared.serve_error.ServeError.{ServeError}
 use Rattle.gf_serve.specs.Serves.{AnswersAll, AnswersFirst}
 use Rattle.gf_command.specs.declared.runs.Run.{Run}
 use Rattle.gf_command.specs.declared.runs.Editor.{Editor}
@@ -94,7 +95,7 @@ AnswersPrefix (Status check notation workers) bytes old new =
 AnswersPrefix (Check editor) bytes old new =
     WritesPrefix (AnswersText (site_of editor) bytes) old new
 AnswersPrefix (Session sites) bytes old new = WritesPrefix (TellsSession sites bytes) old new
-AnswersPrefix (Serve workers) bytes old new = AnswersFirst bytes old new
+AnswersPrefix (Serve workers) bytes old new = (e : ServeError) × AnswersFirst bytes old new e
 
 -- known bytes grow from old to new by what the run asks for, which is to be seen to. Something
 -- waits or differs, where that is asked for, or there is a fault

@@ -36,9 +36,9 @@ use Rattle.gf_serve.specs.declared.request.Request.{Request}
 use Rattle.gf_serve.specs.declared.request.Request.TheVariants as request
 use Rattle.gf_serve.specs.declared.request.TakeText.{TakeText}
 use Rattle.gf_serve.specs.declared.asking.Task.{Task}
-use Rattle.gf_serve.specs.declared.run.RawRequest.{RawRequest}
+use Rattle.gf_serve.specs.declared.dialogue.RawRequest.{RawRequest}
 use Rattle.gf_serve.specs.ReplyTexts.{IsReplyText, refused_text}
-use Rattle.gf_serve.specs.Serves.{IsAnswered, IsRequest}
+use Rattle.gf_serve.specs.Turns.{IsAnswered, IsRequest}
 use Rattle.gf_serve.specs.ServingSteps.{AnswersRawRequest}
 use Rattle.gf_serve.specs.Serving.{Answers, AnswersNext, RefusesLines, RefusesNamed, RefusesTake}
 use Rattle.gf_serve.specs.Serving.{TakesLines}

@@ -1,30 +1,57 @@
 -- What is cut off the front of what is held.
-use Rattle.std.proofs.Common.{◌≡◌, ◌∷◌, ◌++◌, [], ℕ, ◌+◌, ◌≤◌, Bool, false, List, Option}
-use Rattle.std.proofs.Common.{None, Some, ap, arith, cond, drop, get_or, length, nat_lt, sym}
-use Rattle.std.proofs.Common.{Err, Global, IfOk, Ok, OnOk, Result, Vec, append_assoc, take}
+use Rattle.std.proofs.Common.{◌≡◌, ℕ, ◌+◌, ◌<◌, ◌≤◌, ◌∷◌, ◌++◌, [], Bool, true, false, List, Option}
+use Rattle.std.proofs.Common.{None, Some, ap, arith, cond, drop, get_or, inl, inr, length, nat_lt, sym}
+use Rattle.std.proofs.Common.{Err, Global, IfOk, IfSome, Ok, OnOk, Result, Vec, append_assoc, take}
 use Rattle.std.proofs.Common.{take-append-drop, ◌∙◌}
 use Rattle.std.specs.Io.KnownBytes.{Consumes, Keeps, prepend_known}
-use Rattle.std.specs.List.{position}
-use Rattle.std.proofs.lemmas.Bool.{eqb-true, le-ltb}
+use Rattle.std.specs.List.{position, position_or_len}
+use Rattle.std.proofs.lemmas.Bool.{cases_Bool, eqb-true, le-ltb, ltb-false}
 use Rattle.std.proofs.lemmas.List.{get_or-take, length-take-le, take-take, take_more}
 use Rattle.std.proofs.lemmas.List.Quantifiers.{position-Some}
-use Rattle.std.proofs.lemmas.List.Sums.{position_or_len_is}
+use Rattle.std.proofs.lemmas.List.Sums.{fails_before_first, position_or_len_is}
 use Rattle.gf_streams.specs.TextLines.{is_line_end}
-use Rattle.gf_serve.specs.RequestLines.{IsLine}
+use Rattle.gf_serve.specs.RequestLines.{EndsRequests, IsLine}
 use Rattle.gf_serve.specs.declared.inbox.TheConstants.{MOST_LINE_BYTES}
+use Rattle.gf_serve.specs.declared.serve_error.ServeError.TheVariants as serve
 
--- none that passes stands before the first one
-pub none_before : (p : ℕ → Bool) (xs : List ℕ) (i : ℕ) → position p xs ≡ Some i
-    → position p (take i xs) ≡ None
-none_before p xs i e =
+-- of the first n bytes none passes where none does below n
+none_within : (p : ℕ → Bool) (xs : List ℕ) (n : ℕ) → n ≤ length xs
+    → ((k : ℕ) → k < n → p (get_or xs k 0) ≡ false) → position p (take n xs) ≡ None
+none_within p xs n within fails =
+    let m : length (take n xs) ≡ n = length-take-le n xs within in
+    let at = position_or_len_is p (take n xs) n 0 (omega (arith, m))
+    (λ k l. ap p (get_or-take n xs k 0 l) ∙ fails k l) (λ l. absurd (omega (arith, m, l))) in
+    let no : nat_lt n (length (take n xs)) ≡ false = le-ltb n (length (take n xs))
+    (omega (arith, m)) in
+    ap (λ k. cond (nat_lt k (length (take n xs))) (Some k) None) at
+    ∙ ap (λ b. cond b (Some n) None) no
+
+-- so not before the first one
+pub none_before : (p : ℕ → Bool) (xs : List ℕ) (i n : ℕ) → position p xs ≡ Some i → n ≤ i
+    → position p (take n xs) ≡ None
+none_before p xs i n e le =
     let f = position-Some p xs i 0 e in
-    let n : length (take i xs) ≡ i = length-take-le i xs (omega (arith, f.0)) in
-    let at = position_or_len_is p (take i xs) i 0 (omega (arith, n))
-    (λ k l. ap p (get_or-take i xs k 0 l) ∙ f.2 k l) (λ l. absurd (omega (arith, n, l))) in
-    let no : nat_lt i (length (take i xs)) ≡ false = le-ltb i (length (take i xs))
-    (omega (arith, n)) in
-    ap (λ k. cond (nat_lt k (length (take i xs))) (Some k) None) at
-    ∙ ap (λ b. cond b (Some i) None) no
+    none_within p xs n (omega (arith, f.0, le)) (λ k l. f.2 k (omega (arith, l, le)))
+
+-- where there is none, all fail
+none_first : (p : ℕ → Bool) (xs : List ℕ) → position p xs ≡ None
+    → length xs ≤ position_or_len p xs
+none_first p xs e =
+    elim (cases_Bool (nat_lt (position_or_len p xs) (length xs))) [
+      | inl t ↦
+          absurd (
+          let x : Some (position_or_len p xs) ≡ None =
+          sym (ap (λ b. cond b (Some (position_or_len p xs)) None) t) ∙ e in
+          cc)
+      | inr f ↦ omega (arith, ltb-false (position_or_len p xs) (length xs) f)
+    ]
+
+-- so there is none in a part
+pub none_of_part : (p : ℕ → Bool) (xs : List ℕ) (n : ℕ) → position p xs ≡ None → n ≤ length xs
+    → position p (take n xs) ≡ None
+none_of_part p xs n e le =
+    none_within p xs n le
+    (λ k l. fails_before_first p xs k 0 (omega (arith, none_first p xs e, l, le)))
 
 -- a line with its end is the line and a line feed
 pub line_with_end : (xs : List ℕ) (i : ℕ) → position is_line_end xs ≡ Some i
@@ -46,7 +73,7 @@ line_is held whole line i e w l short =
     let p = position-Some is_line_end held i 0 e in
     let n : length (take i held) ≡ i = length-take-le i held (omega (arith, p.0)) in
     record {
-      whole = ap (position is_line_end) f ∙ none_before is_line_end held i e;
+      whole = ap (position is_line_end) f ∙ none_before is_line_end held i i e (omega arith);
       short = rw (f, n) short;
     }
 
@@ -77,3 +104,37 @@ pub body_taken : {E : Type 0} (a b : Option (List ℕ)) (held rest : List ℕ) (
     → IfOk r (λ body. Consumes a (prepend_known rest b) body.items)
 body_taken a b held rest n (Ok front) k f d = cut_off a b held front.items rest n k f d
 body_taken a b held rest n (Err e) k f d = tt
+
+-- more bytes than a line has are held before what is left, and none of these ends one
+line_too_long : (old left : Option (List ℕ)) (held : List ℕ) → Keeps old (prepend_known held left)
+    → MOST_LINE_BYTES < length held
+    → position is_line_end (take (MOST_LINE_BYTES + 1) held) ≡ None
+    → IfSome old (λ rest. EndsRequests rest serve.NoRequest)
+line_too_long None left held k long none = tt
+line_too_long (Some rest) None held k long none = absurd k
+line_too_long (Some rest) (Some others) held k long none = inl (record {
+  front = take (MOST_LINE_BYTES + 1) held;
+  behind = drop (MOST_LINE_BYTES + 1) held ++ others;
+  begins = sym k
+      ∙ (ap (λ l. l ++ others) (sym (take-append-drop (MOST_LINE_BYTES + 1) held))
+      ∙ append_assoc (take (MOST_LINE_BYTES + 1) held) (drop (MOST_LINE_BYTES + 1) held) others);
+  whole = none;
+  long = length-take-le (MOST_LINE_BYTES + 1) held (omega (arith, long));
+})
+
+-- the first line ends too late
+pub line_ends_late : (old left : Option (List ℕ)) (held : List ℕ) (end : ℕ)
+    → Keeps old (prepend_known held left) → position is_line_end held ≡ Some end
+    → MOST_LINE_BYTES < end → IfSome old (λ rest. EndsRequests rest serve.NoRequest)
+line_ends_late old left held end k found late =
+    let f = position-Some is_line_end held end 0 found in
+    line_too_long old left held k (omega (arith, f.0, late))
+    (none_before is_line_end held end (MOST_LINE_BYTES + 1) found (omega (arith, late)))
+
+-- or the bytes that are held have no end of a line
+pub line_never_ends : (old left : Option (List ℕ)) (held : List ℕ)
+    → Keeps old (prepend_known held left) → position is_line_end held ≡ None
+    → MOST_LINE_BYTES < length held → IfSome old (λ rest. EndsRequests rest serve.NoRequest)
+line_never_ends old left held k none long =
+    line_too_long old left held k long
+    (none_of_part is_line_end held (MOST_LINE_BYTES + 1) none (omega (arith, long)))

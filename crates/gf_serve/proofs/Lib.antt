@@ -3,3 +3,4 @@ pub mod AnswerLemmas
 pub mod AskingLemmas
 pub mod InboxLemmas
 pub mod WritingLemmas
+pub mod TurnLemmas

@@ -1,7 +1,7 @@
 -- The bytes of a reply: a line of JSON, and as many bytes behind it as it says (RFC 8259 by
 -- serde_json's compact text; the keys are this project's choice).
 use Rattle.std.specs.Prelude.{◌≡◌, ℕ, Bool, true, false, List, [], ◌∷◌, ◌++◌, Option, None, Some}
-use Rattle.std.specs.Prelude.{codes, length, map}
+use Rattle.std.specs.Prelude.{IfSome, codes, length, map}
 use Rattle.serde_json.specs.Data.{Data, array, boolean}
 use Rattle.serde_json.specs.View.{items_of}
 use Rattle.gf_ops.specs.declared.op.ObjectId.{ObjectId}
@@ -12,7 +12,11 @@ use Rattle.gf_status.specs.declared.state.State.{State}
 use Rattle.gf_status.specs.declared.state.State.TheVariants.{Clean, Open}
 use Rattle.gf_studio.specs.declared.naming.NamedRun.{NamedRun}
 use Rattle.gf_take_run.specs.declared.taken.Taken.{Taken}
+use Rattle.gf_run.specs.ErrorTexts as studio
+use Rattle.gf_take_run.specs.ErrorTexts as take
 use Rattle.gf_serve.specs.declared.reply.Arrival.{Arrival}
+use Rattle.gf_serve.specs.declared.reply.Refusal.{Refusal}
+use Rattle.gf_serve.specs.declared.reply.Refusal.TheVariants as refusal
 use Rattle.gf_serve.specs.declared.reply.Reply.{Reply}
 use Rattle.gf_serve.specs.declared.reply.Reply.TheVariants as reply
 
@@ -72,7 +76,12 @@ refused_data n =
 abbrev pub refused_text : List ℕ → List ℕ
 refused_text words = json_line (refused_data (length words)) ++ words
 
--- the bytes of a reply; no clause says in which words it refuses
+-- the words of a refusal, where they are stated
+abbrev pub refusal_words : Refusal → Option (List ℕ)
+refusal_words (refusal.Run e) = studio.error_text e
+refusal_words (refusal.Take e) = take.error_text e
+
+-- the bytes of a reply
 abbrev pub IsReplyText : Reply → List ℕ → Type 0
 IsReplyText (reply.Lines came) text = text ≡ json_line (arrival_data came)
 IsReplyText (reply.Taken answer) text =
@@ -81,4 +90,5 @@ IsReplyText (reply.Named answer) text =
     text ≡ json_line (named_data (length answer.text.items) answer.value) ++ answer.text.items
 IsReplyText (reply.Status answer) text =
     text ≡ json_line (state_data (length answer.text.items) answer.value) ++ answer.text.items
-IsReplyText (reply.Refused why) text = (words : List ℕ) × (text ≡ refused_text words)
+IsReplyText (reply.Refused why) text =
+    (words : List ℕ) × IfSome (refusal_words why) (λ w. words ≡ w) × (text ≡ refused_text words)

@@ -1,11 +1,14 @@
 //! What came from a source and was not used yet, and the reading of a line or a body.
 
-ghost use Rattle.std.specs.Prelude.{◌≡◌, ◌<◌, ◌≤◌, ◌+◌, ◌∷◌, ◌++◌, [], IfNone, IfOk, IfSome, OnOk};
-ghost use Rattle.std.specs.Prelude.{drop, false, length, take, true};
+ghost use Rattle.std.specs.Prelude.{◌≡◌, ◌<◌, ◌≤◌, ◌+◌, ◌∷◌, ◌++◌, [], IfErr, IfNone, IfOk, IfSome};
+ghost use Rattle.std.specs.Prelude.{OnOk, drop, false, length, take, true};
 ghost use Rattle.std.specs.Io.KnownBytes.{Consumes, IsAtEnd, Keeps, prepend_known};
 ghost use Rattle.std.specs.List.{position};
 ghost use Rattle.gf_streams.specs.TextLines.{is_line_end};
-ghost use Rattle.gf_serve.specs.RequestLines.{IsLine};
+ghost use Rattle.gf_streams.specs.Counts.{CountsFailureAt};
+ghost use Rattle.gf_serve.specs.declared.serve_error.ServeError.TheVariants.{OutOfMemory, ReadFailed};
+ghost use Rattle.gf_serve.specs.RequestLines.{EndsRequests, IsLine};
+ghost use Rattle.gf_serve.specs.ServingSteps.{IsReadFault, IsUnread, IsUnreadBody};
 
 use crate::ServeError;
 use gf_streams::Source;
@@ -30,6 +33,11 @@ pub(crate) fn read_line<R: Source>(
         (prepend_known held.new.items (R.left source.new)) (line.items ++ 10 ∷ []))) }
     ensures end { IfOk result (λ found. IfNone found
         (IsAtEnd (prepend_known held.old.items (R.left source.old)))) }
+    ensures refused { IfErr result (λ e.
+        IfSome (prepend_known held.old.items (R.left source.old)) (λ rest. EndsRequests rest e)) }
+    ensures unread { IfErr result IsUnread }
+    ensures counts { CountsFailureAt ReadFailed (R.failures source.old) (R.failures source.new)
+        result }
 {
     while held.len() <= MOST_LINE_BYTES && line_end(held).is_none() {
         if !fill(source, held)? {
@@ -71,6 +79,12 @@ pub(crate) fn read_body<R: Source>(
     ensures takes { IfOk result (λ body.
         Consumes (prepend_known held.old.items (R.left source.old))
         (prepend_known held.new.items (R.left source.new)) body.items) }
+    ensures refused { IfErr result (λ e.
+        IfSome (prepend_known held.old.items (R.left source.old)) (λ rest.
+        IsUnreadBody count rest e)) }
+    ensures unread { IfErr result IsUnread }
+    ensures counts { CountsFailureAt ReadFailed (R.failures source.old) (R.failures source.new)
+        result }
 {
     while held.len() < count {
         if !fill(source, held)? {
@@ -88,6 +102,10 @@ fn fill<R: Source>(source: &mut R, held: &mut Vec<u8>) -> Result<bool, ServeErro
         → length held.old.items < length held.new.items) }
     ensures none { IfOk result (λ more. more ≡ false → (held.new.items ≡ held.old.items)
         × IsAtEnd (R.left source.new)) }
+    ensures refused { IfErr result IsReadFault }
+    ensures unread { IfErr result IsUnread }
+    ensures counts { CountsFailureAt ReadFailed (R.failures source.old) (R.failures source.new)
+        result }
 {
     let mut chunk = [0u8; CHUNK_BYTES];
     let Ok(count) = source.read(&mut chunk) else {
@@ -104,6 +122,8 @@ fn cut(alloc: Global, held: &mut Vec<u8>, count: usize) -> Result<Vec<u8>, Serve
     requires { count ≤ length held.old.items }
     ensures front { IfOk result (λ front. front.items ≡ take count held.old.items) }
     ensures rest { OnOk result (held.new.items ≡ drop count held.old.items) }
+    ensures refused { IfErr result (λ e. e ≡ OutOfMemory) }
+    ensures unread { IfErr result IsUnread }
 {
     let Ok(rest) = Vec::from_slice(alloc, &held[count..]) else {
         return Err(ServeError::OutOfMemory);

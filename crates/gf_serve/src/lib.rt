@@ -4,13 +4,15 @@
 //! - [`Service`]: what a service keeps; [`Service::answer`] is one request with its whole meaning.
 //! - [`Request`], [`Reply`]: what is asked, and what is answered. [`Arrival`] tells how many
 //!   operations came, [`Refusal`] why a request was refused.
-//! - [`serve_run`]: reads requests from a source and writes the answers, until the requests end.
+//! - [`Dialogue::turn`]: reads one request from a source, and writes its answer. [`serve_run`] takes
+//!   turns until the requests end.
 //! - [`ServeError`]: why a service ended before that.
 //! - [`a_service_answers_as_the_commands`]: the law that ties its answers to the commands.
 #![tactic(auto)]
 
 mod answering;
 mod asking;
+mod dialogue;
 mod inbox;
 mod kept;
 mod laws;
@@ -22,6 +24,7 @@ mod service;
 mod two_replicas;
 mod writing;
 
+pub use dialogue::{Dialogue, Turn};
 pub use laws::a_service_answers_as_the_commands;
 pub use reply::{Arrival, Refusal, Reply};
 pub use request::{Request, TakeText};

@@ -1,10 +1,12 @@
 //! What a service answers.
 
+ghost use Rattle.gf_serve.specs.ReplyTexts.{refusal_words};
+
 use gf_run::{Answer, StudioError};
 use gf_status::State;
 use gf_studio::NamedRun;
 use gf_take_run::{TakeRunError, Taken};
-use thiserror::Error;
+use std::fmt;
 
 /// What a service answers.
 #[derive(Drop)]
@@ -31,10 +33,21 @@ pub struct Arrival {
 }
 
 /// Why a request was refused, in the words of the command of its name.
-#[derive(Debug, Drop, Error)]
+#[derive(Debug, Drop)]
 pub enum Refusal {
-    #[error("{0}")]
     Run(StudioError),
-    #[error("{0}")]
     Take(TakeRunError),
 }
+
+impl fmt::Display for Refusal {
+    ghost output = { refusal_words };
+
+    fn fmt<W: fmt::Write>(&self, f: &mut fmt::Formatter<W>) -> fmt::Result {
+        match self {
+            Refusal::Run(error) => write!(f, "{error}"),
+            Refusal::Take(error) => write!(f, "{error}"),
+        }
+    }
+}
+
+impl std::error::Error for Refusal {}

@@ -12,3 +12,4 @@ pub mod TakenText
 pub mod TakeRun
 pub mod TakeSteps
 pub mod TakenBehind
+pub mod ErrorTexts
