@@ -25,9 +25,9 @@ QUICK = {
     'completion': 'tests/completion.sh',
 }
 SLOW = {
-    'rows': 'tests/run.py', 'small histories': 'tests/small_histories.py', 'server': 'tests/served.py 300',
-    'strangers': 'tests/strangers.py', 'examples': 'examples/run.sh', 'kills': 'tests/draw_kills.sh 20',
-    'layers': 'bench/layers.py --check', 'page': 'page/tests/run.sh',
+    'rows': 'tests/run.py', 'small histories': 'tests/small_histories.py', 'resolving': 'tests/resolving.py',
+    'server': 'tests/served.py 300', 'strangers': 'tests/strangers.py', 'examples': 'examples/run.sh',
+    'kills': 'tests/draw_kills.sh 20', 'layers': 'bench/layers.py --check', 'page': 'page/tests/run.sh',
 }
 COUNTS = re.compile(r'^(\d+) passed, (\d+) failed(?:, (\d+) not run)?$', re.M)
 UNITS = re.compile(r'^Ran (\d+) tests? in .*\n\n(?:OK|FAILED)(.*)', re.M)

@@ -69,7 +69,7 @@ if ! node --test *.test.mjs > "$logs/node" 2>&1; then
     echo "page: a test in node failed" >&2
     status=1
 fi
-run test_draw.py test_words.py test_access.py test_large.py test_tutorial.py &
+run test_draw.py test_words.py test_access.py test_large.py test_tutorial.py test_crowd.py &
 run test_together.py test_accidents.py test_storm.py test_serve.py test_lost.py test_faults.py test_strangers.py test_kills.py || status=1
 wait $! || status=1
 exit "$status"

@@ -1,0 +1,134 @@
+#!/usr/bin/env python3
+"""Tries what designers see who resolve conflicts of one object at the same time: tests/resolving.py [PROGRAM].
+
+From each start in STARTS two or three sites draw on the same text. Each takes it with some of the figures, with none, or as
+it is. Then all hear of all. Afterwards a version is visible if everybody left its figure, or if it is the topmost one that
+somebody left who took others away; and each of these is visible once. All choices are tried, but of four versions three
+sites leave one or three. Without PROGRAM it is that of FIGGROUP, or the one in bin/. The last line counts the cases."""
+from __future__ import annotations
+
+import json
+import os
+import re
+import subprocess
+import sys
+from collections import Counter
+from itertools import combinations, combinations_with_replacement
+from multiprocessing import Pool
+from pathlib import Path
+from typing import NamedTuple
+
+ROOT = Path(__file__).resolve().parent.parent
+FIGGROUP = sys.argv[1] if len(sys.argv) > 1 else os.environ.get("FIGGROUP", str(ROOT / "bin" / "figgroup"))
+SECONDS = 60  # that one call may take
+Id = tuple[int, int]
+Version = frozenset[Id]
+CREATION = {"op": "create", "id": [1, 1], "past": [0] * 8, "kind": "box", "place": [0, 0], "size": [10, 10],
+            "colour": "ff0000", "layer": 0, "shown": True}
+
+
+def change(identity: Id, past: list[int], attribute: str, to: object, aim: tuple[Id, ...] = ()) -> str:
+    """The line of a change of the box."""
+    op = {"op": "set", "id": identity, "past": past + [0] * (8 - len(past)), "object": [1, 1], "set": attribute, "to": to}
+    return json.dumps({**op, "aim": aim} if aim else op)
+
+
+BLUE, GREEN = change((1, 2), [1], "colour", "0000ff"), change((2, 1), [1], "colour", "00ff00")
+STARTS = {
+    "one conflict": [BLUE, GREEN],
+    "two conflicts": [BLUE, GREEN, change((1, 3), [2], "place", [50, 0]), change((2, 2), [1, 1], "place", [0, 50])],
+    "a conflict within a version": [BLUE, GREEN, change((1, 3), [2, 1], "place", [50, 0], ((1, 2),)),
+                                    change((2, 2), [2, 1], "place", [0, 50], ((1, 2),))],
+    "three values": [BLUE, GREEN, change((3, 1), [1], "colour", "ffff00")],
+    "a conflict of a version that was kept": [BLUE, GREEN, change((1, 3), [2, 1], "shown", False),
+                                              change((1, 4), [3, 1], "shown", True, ((1, 2),)),
+                                              change((1, 5), [4, 1], "place", [50, 0]),
+                                              change((2, 2), [4, 1], "place", [0, 50])],
+}
+
+
+def ask(words: list[str], given: str) -> str:
+    """What the program answers."""
+    return subprocess.run([FIGGROUP, *words], input=given, capture_output=True, text=True, check=True, timeout=SECONDS).stdout
+
+
+class Start(NamedTuple):
+    """A history, its named text up to the first figure, and its figures and their versions, the topmost first."""
+
+    lines: str
+    head: str
+    figures: list[str]
+    versions: list[Version]
+
+    def taken(self, site: int, left: tuple[int, ...]) -> str:
+        """The lines by which a site takes the text with these figures."""
+        text = self.head + "".join(self.figures[i] for i in left)
+        return ask(["take", "--site", str(site)], self.lines + text)
+
+    def visible(self, lefts: tuple[tuple[int, ...], ...]) -> list[Version]:
+        """The versions that are to be visible if each site leaves these figures."""
+        everything = tuple(range(len(self.versions)))
+        stay = {i for i in everything if all(i in left for left in lefts)}
+        stay |= {left[0] for left in lefts if left and left != everything}
+        return [self.versions[i] for i in sorted(stay)]
+
+
+def visible(lines: str) -> list[Version]:
+    """The visible versions of the box, the topmost first."""
+    told = map(json.loads, ask(["inspect", "--object", "1.1", "--json"], lines).splitlines())
+    return [frozenset(map(tuple, one["operations"])) for one in told if one["shown"]]
+
+
+def begun(changes: list[str]) -> Start:
+    lines = "\n".join([json.dumps(CREATION), *changes, ""])
+    head, *figures = re.split(r"(?m)^(?=# figgroup \d)", ask(["fig", "--named"], lines))
+    return Start(lines, head, figures, visible(lines))
+
+
+class Case(NamedTuple):
+    """What sites leave at the same time, and the lines that they make."""
+
+    title: str
+    start: Start
+    lefts: tuple[tuple[int, ...], ...]
+    made: str
+
+
+def fault(case: Case) -> str | None:
+    """What is visible otherwise than it is to be."""
+    known = frozenset().union(*case.start.versions)
+    found = Counter(version & known for version in visible(case.start.lines + case.made))
+    wanted = Counter(case.start.visible(case.lefts))
+    if found == wanted:
+        return None
+    told = [sorted(map(sorted, counted.elements())) for counted in (found, wanted)]
+    return f"{case.title}: sites leave {case.lefts}: visible are {told[0]}, and not {told[1]}"
+
+
+def cases() -> list[Case]:
+    found = []
+    for title, changes in STARTS.items():
+        start = begun(changes)
+        count = len(start.versions)
+        choices = [left for n in range(count + 1) for left in combinations(range(count), n)]
+        for sites in (2, 3):
+            if sites == 3 and count > 3:
+                choices = [left for left in choices if len(left) in (0, 1, 3, count)]
+            made = {(site, left): start.taken(site, left) for site in range(1, sites + 1) for left in choices}
+            for lefts in combinations_with_replacement(choices, sites):
+                lines = "".join(made[site, left] for site, left in enumerate(lefts, 1))
+                found.append(Case(title, start, lefts, lines))
+    return found
+
+
+def main() -> None:
+    tried = cases()
+    with Pool() as pool:
+        faults = [told for told in pool.map(fault, tried, 16) if told]
+    print("\n".join(faults[:20]), file=sys.stderr)
+    print(f"{len(tried) - len(faults)} passed, {len(faults)} failed")
+    sys.exit(1 if faults else 0)
+
+
+if __name__ == "__main__":
+    main()
