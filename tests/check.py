@@ -17,7 +17,8 @@ from typing import NamedTuple
 ROOT = Path(__file__).resolve().parent.parent
 SECONDS = 3600  # that a part may take
 NOT_RUN = 77  # the status of a part that can't be run here, and says why
-MOST_SHOWN = 60  # lines of a part that failed
+MOST_SHOWN = 60  # lines of a part that failed, from its end,
+MOST_NAMED = 300  # and before them of those above that name failures
 QUICK = {
     'program': './prove --check', 'stale programs': 'tests/stale_program.sh', 'package': 'tests/package.sh',
     'definitions': 'tools/definitions.py --check', 'crates': 'tools/crates.py --check', 'links': 'tools/links.py --check',
@@ -33,6 +34,9 @@ COUNTS = re.compile(r'^(\d+) passed, (\d+) failed(?:, (\d+) not run)?$', re.M)
 UNITS = re.compile(r'^Ran (\d+) tests? in .*\n\n(?:OK|FAILED)(.*)', re.M)
 OF_PAGE = re.compile(r'^page: \S+: (\d+) tests?', re.M)
 FAILED_OF_PAGE = re.compile(r'^page: \S+ failed$', re.M)
+# What unittest, node and others say of a failure.
+FAILURE = re.compile(r'^={70}\n(?:FAIL|ERROR): .*?(?=^={70}$|^-{70}\nRan |\Z)|^not ok .*?(?:^  \.\.\.$|\Z)'
+                     r'|^(?![^\n]*\b0 failed)[^\n]*\bfailed\b[^\n]*', re.M | re.S)
 
 
 class Count(NamedTuple):
@@ -89,6 +93,12 @@ def end_all(process: 'subprocess.Popen[bytes]') -> None:
     process.wait()
 
 
+def shown(lines: list[str]) -> list[str]:
+    """What a part that failed says of failures, and its end."""
+    named = '\n'.join(FAILURE.findall('\n'.join(lines[:-MOST_SHOWN])))
+    return named.splitlines()[:MOST_NAMED] + lines[-MOST_SHOWN:]
+
+
 def check(name: str, command: str) -> Count:
     """Runs a part, and says how it ended."""
     began = time.monotonic()
@@ -96,7 +106,7 @@ def check(name: str, command: str) -> Count:
     count = counted(said, status)
     lines = said.splitlines()
     if count.failed:
-        print('\n'.join(lines[-MOST_SHOWN:]), file=sys.stderr)
+        print('\n'.join(shown(lines)), file=sys.stderr)
     elif status == NOT_RUN:
         print(f'check: {name}: {lines[-1] if lines else "it does not say why"}')
     for line in lines:

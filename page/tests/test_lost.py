@@ -9,6 +9,9 @@ import tempfile
 import threading
 import time
 import unittest
+import unittest.mock
+from collections.abc import Callable, Iterable
+from typing import Any
 
 from client import Client, Heard, box, drawing
 from helpers import PAGE, wait
@@ -84,31 +87,34 @@ class FallsBack(LostTest):
 
     async def test_while_it_draws(self) -> None:
         """A file that falls back again and again while its page draws: each operation that was taken is there once."""
-        client = await self.drawn(2)
-        first, ended = self.path.read_bytes(), threading.Event()
+        client, count = await self.drawn(2), 2
+        first, old, ended = self.path.read_bytes(), self.server.folder / 'old', threading.Event()
 
         def fall_back() -> None:
-            for i in range(60):
-                if i % 2:
-                    self.path.write_bytes(first)
-                else:
-                    (self.server.folder / 'old').write_bytes(first)
-                    (self.server.folder / 'old').rename(self.path)
+            while not ended.is_set():
+                old.write_bytes(first)
+                old.rename(self.path)
                 time.sleep(.02)
-            ended.set()
+                self.path.write_bytes(first)
+                time.sleep(.02)
 
-        thread = threading.Thread(target=fall_back)
-        thread.start()
-        self.addCleanup(thread.join)
-        count = 2
-        while not ended.is_set():
-            request, said = f'{client.page}.{100 + count}', {'again': ''}
-            while 'again' in said:
-                said = await client.take(boxes(count + 1), after=count, request=request)
-            count += 1
-            self.assertEqual(count, said.get('taken'), said)
-        thread.join()
-        await asyncio.to_thread(wait, lambda: self.numbers() == list(range(1, count + 1)), 10, lambda: str(self.numbers()))
+        async def draw() -> dict:
+            return await client.take(boxes(count + 1), after=count, request=f'{client.page}.{100 + count}')
+
+        falling = asyncio.create_task(asyncio.to_thread(fall_back))
+        try:
+            for _ in range(90):  # the server takes 100 messages of a site at once, and ends a page that sends more
+                said = await draw()
+                if 'again' not in said:
+                    count += 1
+                    self.assertEqual(count, said.get('taken'), said)
+        finally:
+            ended.set()
+            await falling
+        said = await draw()
+        count += 1
+        self.assertEqual(count, said.get('taken'), said)
+        self.assertEqual(list(range(1, count + 1)), self.numbers())
         self.assertEqual(count, self.server.figgroup('fig').count('\n2 2 '))
 
     async def test_changed_lines(self) -> None:
@@ -132,6 +138,27 @@ class FallsBack(LostTest):
         self.assertIn('draw: drawing.kept-1 has lines that site-1.jsonl lost', self.server.said())
 
 
+CALLS = ('open', 'lstat', 'fstat', 'pread', 'write', 'pwrite', 'ftruncate')  # of os, that look at a site file or change it
+
+
+class Calls:
+    """os for a module, with steps of another program, each before the call of this number. Nothing waits for the disk."""
+
+    def __init__(self, steps: Iterable[tuple[int, Callable[[], object]]]) -> None:
+        self.left, self.count = list(steps), 0
+
+    def __getattr__(self, name: str) -> Any:
+        found = getattr(os, name)
+
+        def call(*words: object, **more: object) -> object:
+            while self.left and self.left[0][0] == self.count:
+                self.left.pop(0)[1]()
+            self.count += 1
+            return found(*words, **more)
+
+        return call if name in CALLS else (lambda number: None) if name == 'fsync' else found
+
+
 class OtherPrograms(LostTest):
     """Other programs at the very moment of an append, which a test can only meet from within."""
 
@@ -151,16 +178,74 @@ class OtherPrograms(LostTest):
             self.file.read_more()
             return self.file.append(held, self.line % number, 'page', number)
 
+    def ask(self, number: int) -> None:
+        """Does what the server does with a request, and with one that comes again."""
+        try:
+            self.file.read_more()
+            while not (held := self.file.lock()):
+                pass
+            with held:
+                self.file.mend(held)
+                self.file.read_more()
+                self.assertIsNone(self.file.fault)
+                self.file.check_end(held)
+                if not self.file.made_by('page', number):
+                    self.file.append(held, self.line % number, 'page', number)
+        except OSError:
+            self.ask(number)
+
+    def disturb(self, *steps: tuple[int, Callable[[], object]]) -> int:
+        """Appends a line, with steps of another program before calls of these numbers, and looks what the file then has.
+        Returns how many steps came behind all calls."""
+        lines = [self.line % number for number in range(1, 5)]
+        self.path.write_bytes(b''.join(lines[:3]))
+        self.file = sitefile.SiteFile(str(self.server.folder), 1)
+        self.file.read_more()
+        calls = Calls(steps)
+        with unittest.mock.patch.object(sitefile, 'os', calls):
+            self.ask(4)
+        for _, step in calls.left:
+            step()
+        self.file.read_more()
+        if self.file.is_cut():
+            with self.file.lock() as held:
+                self.file.mend(held)
+        self.assertEqual(b''.join(lines), self.path.read_bytes(), [moment for moment, _ in steps])
+        return len(calls.left)
+
+    def test_is_written_in_place(self) -> None:
+        """Its file is emptied, and gets a beginning of its lines, at any two moments of an append."""
+        def write() -> None:
+            with open(self.path, 'r+b') as file:
+                file.write(self.line % 1)
+
+        first = second = 0
+        while (left := self.disturb((first, lambda: os.truncate(self.path, 0)), (second, write))) < 2:
+            first, second = (first + 1, first + 1) if left else (first, second + 1)
+
+    def test_is_replaced(self) -> None:
+        """A beginning of its lines takes the place of its file, at any moment of an append."""
+        old = self.server.folder / 'old'
+
+        def replace() -> None:
+            old.write_bytes(self.line % 1)
+            old.rename(self.path)
+
+        moment = 0
+        while not self.disturb((moment, replace)):
+            moment += 1
+
     def test_adds_at_the_same_time(self) -> None:
         """Lines that come before and after are known, and the end of the file is right."""
         for before, after in ((True, False), (False, True), (True, True)):
-            def add(held: object, new: bytes) -> None:
+            def add(held: object, new: bytes) -> int:
                 number = sitefile.id_of(new)[1]
                 with open(self.path, 'ab') as file:
                     file.write(self.line % (number + 1) if before else b'')
-                self.add(held, new)
+                end = self.add(held, new)
                 with open(self.path, 'ab') as file:
                     file.write(self.line % (number + 2) if after else b'')
+                return end
             sitefile.add = add
             self.assertFalse(self.append(self.file.last + 1))
             self.assertEqual(self.path.read_bytes(), self.file.lines)
@@ -173,9 +258,10 @@ class OtherPrograms(LostTest):
         """What went into a file that lost its name is not reported as taken; it is added when it is asked again."""
         for replace in (lambda: (part.write_bytes(self.line % 1), part.rename(self.path)), lambda: self.path.write_bytes(b'')):
             part = self.server.folder / 'part'
-            def add(held: object, new: bytes) -> None:
-                self.add(held, new)
+            def add(held: object, new: bytes) -> int:
+                end = self.add(held, new)
                 replace()
+                return end
             sitefile.add, last = add, self.file.last
             with self.assertRaises(OSError):
                 self.append(last + 1)
