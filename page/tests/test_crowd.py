@@ -12,7 +12,7 @@ from typing import Callable
 from client import Client
 from helpers import Server
 
-SITES, GESTURES, MOST_VERSIONS = 8, 100, 48
+SITES, GESTURES, MOST_VERSIONS = 8, 100, 36
 NAME = re.compile(r'# figgroup (\d+\.\d+)')
 KNOWS = re.compile(r'^# figgroup knows (.*)$', re.M)
 
@@ -43,18 +43,18 @@ def edited(text: str, rng: random.Random) -> str:
     i = rng.randrange(len(figures)) if figures else 0
     objects = Counter(found[1] for figure in figures if (found := NAME.match(figure)))
     several = sorted(name for name, count in objects.items() if count > 1)
-    gesture = rng.randrange(10)
-    if not figures or gesture == 0 and len(figures) < 40:
+    gesture = rng.randrange(20)
+    if not figures or gesture < 2 and len(objects) < 10:
         figures.append(box(rng))
-    elif several and gesture == 1:
+    elif several and gesture < 3:
         name = rng.choice(several)
         kept = rng.choice([k for k, figure in enumerate(figures) if figure.startswith(f'# figgroup {name} ')])
         figures = [figure for k, figure in enumerate(figures) if k == kept or not figure.startswith(f'# figgroup {name} ')]
-    elif gesture in (2, 3):
+    elif gesture == 5:
         figures.pop(i)
-    elif gesture == 4:
+    elif gesture < 8:
         figures.append(changed(figures.pop(i), lambda first, points: first.__setitem__(6, '0')))
-    elif gesture in (5, 6, 7):
+    elif gesture < 14:
         x, y = rng.randrange(-300, 301, 50), rng.randrange(-300, 301, 50)
         figures[i] = changed(figures[i], lambda first, points: points.__setitem__(
             slice(None), [str(int(word) + (y if k % 2 else x)) for k, word in enumerate(points)]))
@@ -90,28 +90,35 @@ class Designer:
 
 
 class Crowd(unittest.IsolatedAsyncioTestCase):
+    async def asyncSetUp(self) -> None:
+        asyncio.get_running_loop().set_debug(False)
+
     async def storm(self, at_once: int) -> None:
         """Rounds in which each designer makes so many gestures before anybody hears of them."""
-        asyncio.get_running_loop().set_debug(False)
         server = Server(SITES)
         self.addCleanup(server.end)
         designers = [Designer(await Client().open(server.address[site]), 100 * at_once + site) for site in range(1, SITES + 1)]
+        most = 0
         for _ in range(GESTURES // at_once):
             made = sum(designer.own for designer in designers)
             for designer in designers:
                 await designer.hear_all(made)
+            most = max(most, *Counter(NAME.findall(designers[0].text)).values(), 0)
+            self.assertLessEqual(most, MOST_VERSIONS)
             await asyncio.gather(*(designer.draw(at_once) for designer in designers))
         named = server.figgroup('fig', '--named')
-        most = Counter(NAME.findall(named)).most_common(1)
-        self.assertLessEqual(most[0][1], MOST_VERSIONS, most)
+        self.assertEqual('', server.figgroup('check'))
         print(f'{SITES} designers, {at_once} at once: {len(server.operations())} operations, {len(NAME.findall(named))} figures, '
-              f'at most {most[0][1]} of one object', flush=True)
+              f'at most {most} of one object', flush=True)
 
     async def test_one_at_once(self) -> None:
         await self.storm(1)
 
     async def test_two_at_once(self) -> None:
         await self.storm(2)
+
+    async def test_four_at_once(self) -> None:
+        await self.storm(4)
 
 
 if __name__ == '__main__':
