@@ -135,6 +135,18 @@ class Together(PageTest):
         for page in (ann, ben):
             wait(lambda: len(page.figures) == 2, what=lambda: page.figures)
 
+    def test_undo_of_a_deletion(self):
+        """Ben moved what Ann deleted at the same time. Her undo shows it once, where she left it, and her redo deletes it."""
+        ann, ben = self.hidden()
+        ann.press(Keys.CONTROL, 'z')
+        for page in (ann, ben):
+            page.wait_figures([f'rect {FIRST} 1000 1000 1000 1000'])
+            page.wait_text('#hidden p', [])
+        ann.press(Keys.CONTROL, Keys.SHIFT, 'z')
+        for page in (ann, ben):
+            page.wait_figures([])
+        self.assertEqual(1, sum(operation['op'] == 'create' for operation in self.server.operations()))
+
     def test_left_deleted(self):
         ann, ben = self.hidden()
         ann.button_of('Leave it deleted')

@@ -28,6 +28,11 @@ fn kind_of(form: &Form) -> FormKind {
     }
 }
 
+/// Whether a version is of a figure's kind.
+pub(crate) fn is_of_kind(version: &Version, figure: &Start) -> bool {
+    kind_of(&version.form) == kind_of(&figure.form)
+}
+
 /// Whether a form is a polygon.
 pub(crate) fn is_polygon(form: &Form) -> bool {
     kind_of(form) == FormKind::Polygon

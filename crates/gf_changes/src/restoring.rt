@@ -2,7 +2,7 @@
 
 use crate::Target;
 use crate::aiming::{MOST_AIMED, aim_to_keep};
-use crate::comparing::is_alike;
+use crate::comparing::{is_alike, is_of_kind};
 use crate::matching::is_named;
 use crate::ranks::{Rank, ranks_by_object, ranks_of};
 use gf_base::OutOfMemory;
@@ -45,32 +45,45 @@ fn object_not_shown(
     Some(object)
 }
 
-/// The change that shows a version again: the first hidden one of these, which are of one object,
-/// that has the figure's name and looks like it.
+/// The change that shows a hidden version again, if the figure names one of these, which are of one
+/// object.
 pub fn showing_again(
     alloc: Global,
     history: &IndexedHistory,
     versions: &[Version],
     figure: &Target,
 ) -> Result<Option<Change>, OutOfMemory> {
-    for version in versions {
-        if is_hidden_alike(version, figure) {
-            let aim = aim_to_keep(alloc, history, &version.key)?;
-            if MOST_AIMED < aim.as_slice().len() {
-                return Ok(None);
-            }
-            return Ok(Some(Change::set_shown(version.key.object, true, aim)));
-        }
+    let Some(version) = hidden_for(versions, figure) else {
+        return Ok(None);
+    };
+    let aim = aim_to_keep(alloc, history, &version.key)?;
+    if MOST_AIMED < aim.as_slice().len() {
+        return Ok(None);
     }
-    Ok(None)
+    Ok(Some(Change::set_shown(version.key.object, true, aim)))
 }
 
-/// Whether a version is hidden, has the figure's name, and looks like it.
-fn is_hidden_alike(version: &Version, figure: &Target) -> bool {
+/// The first hidden version that has the figure's name and looks like it. If no version is shown,
+/// else the first one that has the name and is of the figure's kind: it then becomes the figure.
+fn hidden_for<'a>(versions: &'a [Version], figure: &Target) -> Option<&'a Version> {
     let Some(named) = &figure.name else {
-        return false;
+        return None;
     };
-    !version.shown && is_named(&version.key, named) && is_alike(version, &figure.start)
+    let mut other = None;
+    let mut is_shown = false;
+    for version in versions {
+        if version.shown {
+            is_shown = true;
+        } else if is_named(&version.key, named) {
+            if is_alike(version, &figure.start) {
+                return Some(version);
+            }
+            if other.is_none() && is_of_kind(version, &figure.start) {
+                other = Some(version);
+            }
+        }
+    }
+    if is_shown { None } else { other }
 }
 
 /// Whether these changes have one already that is of the same object with the same aim.
