@@ -91,7 +91,7 @@ class Start(NamedTuple):
 def visible(lines: str) -> list[Version]:
     """The visible versions of the box, the topmost first."""
     told = map(json.loads, ask(["inspect", "--object", "1.1", "--json"], lines).splitlines())
-    return [frozenset(map(tuple, one["operations"])) for one in told if one["shown"]]
+    return [frozenset((site, number) for site, number in one["operations"]) for one in told if one["shown"]]
 
 
 def cut(text: str) -> list[str]:
@@ -128,7 +128,7 @@ def fault(case: Case) -> str | None:
     wanted = Counter(case.start.versions if case.undo else case.start.visible(case.lefts))
     if found == wanted:
         return None
-    told = [sorted(map(sorted, counted.elements())) for counted in (found, wanted)]
+    told = [sorted(sorted(version) for version in counted.elements()) for counted in (found, wanted)]
     return f"{case.title}: sites leave {case.lefts}, and {case.undo} undo it: visible are {told[0]}, and not {told[1]}"
 
 
