@@ -4,7 +4,10 @@
 From each start in STARTS two or three sites draw on the same text. Each takes it with some of the figures, with none, or as
 it is. Then all hear of all. Afterwards a version is visible if everybody left its figure, or if it is the topmost one that
 somebody left who took others away; and each of these is visible once. All choices are tried, but of four versions three
-sites leave one or three. Without PROGRAM it is that of FIGGROUP, or the one in bin/. The last line counts the cases."""
+sites leave one or three. If then one of two sites takes all figures again, as by an undo, or if both do so at the same time,
+all versions are visible again, each once.
+
+Without PROGRAM it is that of FIGGROUP, or the one in bin/. The last line counts the cases."""
 from __future__ import annotations
 
 import json
@@ -21,6 +24,7 @@ from typing import NamedTuple
 ROOT = Path(__file__).resolve().parent.parent
 FIGGROUP = sys.argv[1] if len(sys.argv) > 1 else os.environ.get("FIGGROUP", str(ROOT / "bin" / "figgroup"))
 SECONDS = 60  # that one call may take
+KNOWS = re.compile(r"(?m)^# figgroup knows .*$")
 Id = tuple[int, int]
 Version = frozenset[Id]
 CREATION = {"op": "create", "id": [1, 1], "past": [0] * 8, "kind": "box", "place": [0, 0], "size": [10, 10],
@@ -65,6 +69,17 @@ class Start(NamedTuple):
         text = self.head + "".join(self.figures[i] for i in left)
         return ask(["take", "--site", str(site)], self.lines + text)
 
+    def taken_again(self, site: int, made: str) -> str:
+        """The lines by which a site takes all figures again after these were made, as a page does: if some come back, those
+        that are there name their creation, too."""
+        text = ask(["fig", "--named"], self.lines + made)
+        there = {name_of(figure) for figure in cut(text)[1:]}
+        back = any(name_of(figure) not in there for figure in self.figures)
+        figures = [figure.replace("\n", "\n# figgroup with 1.1\n", 1) if back and name_of(figure) in there else figure
+                   for figure in self.figures]
+        head = KNOWS.sub(KNOWS.findall(text)[0], self.head)
+        return ask(["take", "--site", str(site)], self.lines + made + head + "".join(figures))
+
     def visible(self, lefts: tuple[tuple[int, ...], ...]) -> list[Version]:
         """The versions that are to be visible if each site leaves these figures."""
         everything = tuple(range(len(self.versions)))
@@ -76,33 +91,45 @@ class Start(NamedTuple):
 def visible(lines: str) -> list[Version]:
     """The visible versions of the box, the topmost first."""
     told = map(json.loads, ask(["inspect", "--object", "1.1", "--json"], lines).splitlines())
-    return [frozenset(map(tuple, one["operations"])) for one in told if one["shown"]]
+    return [frozenset((site, number) for site, number in one["operations"]) for one in told if one["shown"]]
+
+
+def cut(text: str) -> list[str]:
+    """A named text up to its first figure, and its figures with their names."""
+    return re.split(r"(?m)^(?=# figgroup \d)", text)
+
+
+def name_of(figure: str) -> str:
+    """The name of a figure, without its depth."""
+    return re.sub(" at [0-9]+", "", figure.partition("\n")[0])
 
 
 def begun(changes: list[str]) -> Start:
     lines = "\n".join([json.dumps(CREATION), *changes, ""])
-    head, *figures = re.split(r"(?m)^(?=# figgroup \d)", ask(["fig", "--named"], lines))
+    head, *figures = cut(ask(["fig", "--named"], lines))
     return Start(lines, head, figures, visible(lines))
 
 
 class Case(NamedTuple):
-    """What sites leave at the same time, and the lines that they make."""
+    """What sites leave at the same time, which of them undo it then, and the lines that they made of the former."""
 
     title: str
     start: Start
     lefts: tuple[tuple[int, ...], ...]
+    undo: tuple[int, ...]
     made: str
 
 
 def fault(case: Case) -> str | None:
     """What is visible otherwise than it is to be."""
     known = frozenset().union(*case.start.versions)
-    found = Counter(version & known for version in visible(case.start.lines + case.made))
-    wanted = Counter(case.start.visible(case.lefts))
+    again = "".join(case.start.taken_again(site, case.made) for site in case.undo)
+    found = Counter(version & known for version in visible(case.start.lines + case.made + again))
+    wanted = Counter(case.start.versions if case.undo else case.start.visible(case.lefts))
     if found == wanted:
         return None
-    told = [sorted(map(sorted, counted.elements())) for counted in (found, wanted)]
-    return f"{case.title}: sites leave {case.lefts}: visible are {told[0]}, and not {told[1]}"
+    told = [sorted(sorted(version) for version in counted.elements()) for counted in (found, wanted)]
+    return f"{case.title}: sites leave {case.lefts}, and {case.undo} undo it: visible are {told[0]}, and not {told[1]}"
 
 
 def cases() -> list[Case]:
@@ -117,7 +144,8 @@ def cases() -> list[Case]:
             made = {(site, left): start.taken(site, left) for site in range(1, sites + 1) for left in choices}
             for lefts in combinations_with_replacement(choices, sites):
                 lines = "".join(made[site, left] for site, left in enumerate(lefts, 1))
-                found.append(Case(title, start, lefts, lines))
+                undos = [(), (1,), (2,), (1, 2)] if sites == 2 and all(len(left) < count for left in lefts) else [()]
+                found += [Case(title, start, lefts, undo, lines) for undo in undos]
     return found
 
 

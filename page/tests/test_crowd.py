@@ -73,7 +73,7 @@ class Designer:
 
     async def hear_all(self, made: int) -> None:
         """Waits until the text knows so many operations, and draws on that one."""
-        while not self.client.text or sum(map(int, re.findall(r'\.(\d+)', KNOWS.search(self.client.text)[1]))) < made:
+        while not self.client.text or sum(map(int, re.findall(r'\.(\d+)', KNOWS.findall(self.client.text)[0]))) < made:
             await self.client.hear('drawing')
         self.text = self.client.text
 
