@@ -40,7 +40,7 @@ class PageTest(unittest.TestCase):
         self.driver.get('data:,')
         self.server.end()
 
-    def page(self, site=1, state='saved', held=None):
+    def page(self, site: int = 1, state: str = 'saved', held: list[str] | None = None) -> Page:
         """A further window with the page of a site, which is tapped if `held` tells what it does not hear at first."""
         self.driver.switch_to.window(self.first)
         if self.driver.current_url != 'data:,':

@@ -91,7 +91,7 @@ class Server:
         texts = [file.read_text() for file in files if file.exists()]
         return [line for text in texts for line in text[:text.rfind('\n') + 1].splitlines()]
 
-    def operations(self, site=None):
+    def operations(self, site: int | None = None) -> list[dict]:
         return [json.loads(line) for line in self.lines(site)]
 
     def figgroup(self, *words):

@@ -50,7 +50,7 @@ class Accidents(PageTest):
         page.wait_figures(['rect #2e7d32 500 3500 1000 1000', f'rect {FIRST} 0 3000 1000 1000'])
         self.assertEqual('4f7cac', self.server.colour_at(700, 3700))
 
-    def test_a_browser_that_forgets(self):
+    def test_a_browser_that_forgets(self) -> None:
         """What waits on a page is not given up because its copy in the browser was cleared."""
         page = self.page()
         self.server.kill()
