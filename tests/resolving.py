@@ -5,7 +5,8 @@ From each start in STARTS two or three sites draw on the same text. Each takes i
 it is. Then all hear of all. Afterwards a version is visible if everybody left its figure, or if it is the topmost one that
 somebody left who took others away; and each of these is visible once. All choices are tried, but of four versions three
 sites leave one or three. If then one of two sites takes all figures again, as by an undo, or if both do so at the same time,
-all versions are visible again, each once.
+all versions are visible again, each once. If the other one had changed figures that the first one took away, an undo shows
+each figure once, as it was.
 
 Without PROGRAM it is that of FIGGROUP, or the one in bin/. The last line counts the cases."""
 from __future__ import annotations
@@ -19,7 +20,7 @@ from collections import Counter
 from itertools import combinations, combinations_with_replacement
 from multiprocessing import Pool
 from pathlib import Path
-from typing import NamedTuple
+from typing import Any, NamedTuple
 
 ROOT = Path(__file__).resolve().parent.parent
 FIGGROUP = sys.argv[1] if len(sys.argv) > 1 else os.environ.get("FIGGROUP", str(ROOT / "bin" / "figgroup"))
@@ -64,10 +65,10 @@ class Start(NamedTuple):
     figures: list[str]
     versions: list[Version]
 
-    def taken(self, site: int, left: tuple[int, ...]) -> str:
-        """The lines by which a site takes the text with these figures."""
-        text = self.head + "".join(self.figures[i] for i in left)
-        return ask(["take", "--site", str(site)], self.lines + text)
+    def taken(self, site: int, left: tuple[int, ...], changed: tuple[int, ...] = ()) -> str:
+        """The lines by which a site takes the text with these figures, of which it changed some."""
+        figures = [changed_figure(figure) if i in changed else figure for i, figure in enumerate(self.figures) if i in left]
+        return ask(["take", "--site", str(site)], self.lines + self.head + "".join(figures))
 
     def taken_again(self, site: int, made: str) -> str:
         """The lines by which a site takes all figures again after these were made, as a page does: if some come back, those
@@ -88,10 +89,20 @@ class Start(NamedTuple):
         return [self.versions[i] for i in sorted(stay)]
 
 
+def shown(lines: str) -> list[dict[str, Any]]:
+    """What the program says of the visible versions of the box, the topmost first."""
+    versions = map(json.loads, ask(["inspect", "--object", "1.1", "--json"], lines).splitlines())
+    return [version for version in versions if version["shown"]]
+
+
 def visible(lines: str) -> list[Version]:
     """The visible versions of the box, the topmost first."""
-    told = map(json.loads, ask(["inspect", "--object", "1.1", "--json"], lines).splitlines())
-    return [frozenset((site, number) for site, number in one["operations"]) for one in told if one["shown"]]
+    return [frozenset((site, number) for site, number in version["operations"]) for version in shown(lines)]
+
+
+def looks(lines: str) -> list[str]:
+    """How the visible versions of the box look."""
+    return sorted(f"{version['colour']} at {version['place']}" for version in shown(lines))
 
 
 def cut(text: str) -> list[str]:
@@ -102,6 +113,16 @@ def cut(text: str) -> list[str]:
 def name_of(figure: str) -> str:
     """The name of a figure, without its depth."""
     return re.sub(" at [0-9]+", "", figure.partition("\n")[0])
+
+
+def changed_figure(figure: str) -> str:
+    """The figure elsewhere, in another colour."""
+    lines = figure.split("\n")
+    at = next(i for i, line in enumerate(lines) if not line.startswith("#"))
+    first = lines[at].split(" ")
+    lines[at] = " ".join([*first[:4], "6", "6", *first[6:]])
+    lines[at + 1] = "\t " + " ".join(str(int(word) + 7) for word in lines[at + 1].split())
+    return "\n".join(lines)
 
 
 def begun(changes: list[str]) -> Start:
@@ -118,13 +139,18 @@ class Case(NamedTuple):
     lefts: tuple[tuple[int, ...], ...]
     undo: tuple[int, ...]
     made: str
+    changed: tuple[int, ...] = ()  # which figures the second site changed
 
 
 def fault(case: Case) -> str | None:
     """What is visible otherwise than it is to be."""
     known = frozenset().union(*case.start.versions)
     again = "".join(case.start.taken_again(site, case.made) for site in case.undo)
-    found = Counter(version & known for version in visible(case.start.lines + case.made + again))
+    lines = case.start.lines + case.made + again
+    if case.changed:
+        same = looks(lines) == looks(case.start.lines)
+        return None if same else f"{case.title}: the second site changed {case.changed}: visible are {looks(lines)}"
+    found = Counter(version & known for version in visible(lines))
     wanted = Counter(case.start.versions if case.undo else case.start.visible(case.lefts))
     if found == wanted:
         return None
@@ -138,6 +164,9 @@ def cases() -> list[Case]:
         start = begun(changes)
         count = len(start.versions)
         choices = [left for n in range(count + 1) for left in combinations(range(count), n)]
+        for changed in choices[1:]:
+            lines = start.taken(1, ()) + start.taken(2, choices[-1], changed)
+            found.append(Case(title, start, ((), choices[-1]), (1,), lines, changed))
         for sites in (2, 3):
             if sites == 3 and count > 3:
                 choices = [left for left in choices if len(left) in (0, 1, 3, count)]
