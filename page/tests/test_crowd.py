@@ -25,7 +25,7 @@ def box(rng: random.Random) -> str:
 
 
 def changed(figure: str, change: Callable[[list[str], list[str]], None]) -> str:
-    """The figure behind a change of the words of its two lines."""
+    """The figure after a change of the words of its two lines."""
     lines = figure.split('\n')
     at = next(i for i, line in enumerate(lines) if not line.startswith('#'))
     first, points = lines[at].split(' '), lines[at + 1].split()
@@ -34,7 +34,7 @@ def changed(figure: str, change: Callable[[list[str], list[str]], None]) -> str:
 
 
 def edited(text: str, rng: random.Random) -> str:
-    """The text behind a gesture: a figure is drawn, moved, coloured, deleted or brought to the front, or the versions of
+    """The text after a gesture: a figure is drawn, moved, coloured, deleted or brought to the front, or the versions of
     an object go but for one."""
     head, *figures = re.split(r'(?m)^(?=# figgroup \d)', text)
     if '2 2 ' in head:  # boxes that were drawn since the text came have no name
@@ -78,7 +78,7 @@ class Designer:
         self.text = self.client.text
 
     async def draw(self, gestures: int) -> None:
-        """Makes so many gestures behind each other, and hears of nobody between."""
+        """Makes so many gestures one after the other, and hears of nobody between."""
         for _ in range(gestures):
             self.text = edited(self.text, self.rng)
             try:
