@@ -63,7 +63,7 @@ class Accidents(PageTest):
         self.made(2)
         page.wait_figures([f'rect {FIRST} 0 0 1000 1000', f'rect {FIRST} 2000 0 1000 1000'])
 
-    def test_two_windows_that_were_closed(self):
+    def test_two_windows_that_were_closed(self) -> None:
         """Of several windows that were closed while their changes waited, a page shows one after the other."""
         page = self.page()
         self.server.kill()
@@ -83,7 +83,7 @@ class Accidents(PageTest):
         self.assertEqual([[0, 0], [0, 2000]], sorted(operation['place'] for operation in self.made(2)))
         wait(lambda: page.js('return Object.keys(localStorage)') == [])
 
-    def test_another_window_goes_on(self):
+    def test_another_window_goes_on(self) -> None:
         """A page whose changes another window took over, as it gave no answer, gives them up, and says so."""
         one = self.page()
         self.server.kill()

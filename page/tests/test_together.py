@@ -135,7 +135,7 @@ class Together(PageTest):
         for page in (ann, ben):
             wait(lambda: len(page.figures) == 2, what=lambda: page.figures)
 
-    def test_undo_of_a_deletion(self):
+    def test_undo_of_a_deletion(self) -> None:
         """Ben moved what Ann deleted at the same time. Her undo shows it once, where she left it, and her redo deletes it."""
         ann, ben = self.hidden()
         ann.press(Keys.CONTROL, 'z')
